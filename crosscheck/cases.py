@@ -164,6 +164,7 @@ def observed_spans(random, setups):
             "without": random.choice([[], [], [], ["go"]]),
             "min": 1,
             "max": random.randrange(1, 20),
+            "assume": observed_ranges(random),
         }
         for number in range(random.randrange(6))
     ]
@@ -177,9 +178,22 @@ def observed_end(random, end):
     return {f"{end}_pin": pin, f"{end}_edge": edge} | ({f"{end}_at": ["go"]} if random.random() < 0.15 else {})
 
 
+def observed_ranges(random):
+    """What is assumed after the instruction at the start: small ranges, and some in which many numbers of a run are."""
+    names = random.choice([["x"], ["y"], ["x", "y"]])
+    most = 65534 if len(names) == 1 else 300
+    ranges = [[0, most], [0, most], [0, 0], [1, 4], [2, 31], [random.randrange(40), random.randrange(40, 300)]]
+    return [{"after": "go"} | {name: random.choice(ranges) for name in names} for _ in range(random.choice([0, 0, 0, 1, 1, 2]))]
+
+
 def placed(spans, setups):
     """The spans with addresses in the place of labels: all are that of the start."""
-    return [{key: [setups[it["machine"]]["start"]] if value == ["go"] else value for key, value in it.items()} for it in spans]
+    found = []
+    for it in spans:
+        start = setups[it["machine"]]["start"]
+        placed = {key: [start] if value == ["go"] else value for key, value in it.items()}
+        found.append(placed | {"assume": [one | {"after": start} for one in it["assume"]]})
+    return found
 
 
 def lines_of(keys):
@@ -189,8 +203,17 @@ def lines_of(keys):
 
 def as_tables(spans):
     """The tables of spans in a configuration."""
-    quoted = [{key: as_toml(value) for key, value in span.items()} for span in spans]
-    return "".join("[[span]]\n" + "".join(f"{key} = {value}\n" for key, value in span.items()) for span in quoted)
+    return "".join(as_table(span) for span in spans)
+
+
+def as_table(span):
+    """The table of a span; its assumptions are tables of their own, or those of an array where they are an odd number."""
+    assume = [{key: as_toml(value) for key, value in one.items()} for one in span.get("assume", [])]
+    is_array = len(assume) % 2 == 1
+    text = "[[span]]\n" + "".join(f"{key} = {as_toml(value)}\n" for key, value in span.items() if key != "assume")
+    if is_array:
+        return text + "assume = [" + ", ".join("{" + ", ".join(f"{key} = {value}" for key, value in one.items()) + "}" for one in assume) + "]\n"
+    return text + "".join("[[span.assume]]\n" + "".join(f"{key} = {value}\n" for key, value in one.items()) for one in assume)
 
 
 def as_toml(value):
@@ -562,7 +585,30 @@ def span(random, noise, machines):
                 keys.pop(f"{end}_{key}") if random.random() < 0.95 else None
     if random.random() < 0.3:
         keys["prompt"] = rarely(random.choice(["1", '"true"', "[]"]), random.choice(["true", "false"]))
+    if random.random() < 0.3:
+        one = rarely(random.choice(["1", '["ag"]', "{}", "[1]"]), None)
+        count = random.choice([0, 1, 2, 16, rarely(17, 3)])
+        keys["assume"] = one or "[" + ", ".join(assumption(random, known, rarely) for _ in range(count)) + "]"
     return keys
+
+
+def assumption(random, known, rarely):
+    """A table of what is assumed after an instruction."""
+    label = random.choice(known if known and random.random() < 0.95 else ["ag", "first", "mid"])
+    after = rarely(random.choice(["1", '["ag"]', "true"]), f'"{label}"')
+    names = random.choice([["x"], ["y"], ["x", "y"], ["y", "x"], rarely([], ["x"])])
+    fields = [f"{name} = {numbers(random, rarely)}" for name in names]
+    fields += [] if rarely(random.random() < 0.5, False) else [f"after = {after}"]
+    fields += ["z = 1"] if rarely(random.random() < 0.2, False) else []
+    random.shuffle(fields)
+    return "{" + ", ".join(fields) + "}"
+
+
+def numbers(random, rarely):
+    """A range, mostly one that few pairs have."""
+    odd = ["[1]", "[1, 2, 3]", "[3, 2]", "[-1, 2]", "[0, 65535]", "[0, 4294967296]", "3", '["1", "2"]', "[1.0, 2]", "[]", "[0, 65534]"]
+    low, high = sorted(random.choice([0, 1, 31, 32, 200, 3969, random.randrange(400)]) for _ in range(2))
+    return rarely(random.choice(odd), f"[{low}, {rarely(high + 300, high % 360 + low % 360)}]" if high < 3000 else f"[{low % 300}, {high}]")
 
 
 # Stimuli.

@@ -39,7 +39,8 @@ EDGES = ("rise", "fall", "out", "in")
 SPAN_WORDS = {"from_edge": EDGES, "to_edge": EDGES, "unit": ("ticks", "clocks")}
 EVENTS = ["from_at", "to_at", "from_done", "to_done"]
 SPAN_LABELS = ["stalls", "without", *EVENTS]
-SPAN_KEYS = ["name", "machine", "from_pin", "to_pin", "from_edge", "to_edge", "unit", "min", "max", "stalls", "prompt", "without", *EVENTS]
+SPAN_KEYS = ["name", "machine", "from_pin", "to_pin", "from_edge", "to_edge", "unit", "min", "max", "stalls", "prompt", "without", *EVENTS, "assume"]
+MOST_PAIRS = 2**17  # of X and Y up to the greatest numbers of their ranges, with any of each
 PIN_KEYS = ["high", "level", "out", "bypass"]
 
 
@@ -148,10 +149,12 @@ class Reader:
             end, _, what = key.partition("_")
             if key not in table:
                 is_in_its_place = what in ("pin", "edge") and f"{end}_done" in table
-                need(key in ("unit", "prompt", *SPAN_LABELS) or is_in_its_place, where, "C13")
+                need(key in ("unit", "prompt", "assume", *SPAN_LABELS) or is_in_its_place, where, "C13")
             elif key in SPAN_LABELS:
                 self.labels(where, table, key)
                 need(what != "done" or not {f"{end}_{it}" for it in ("pin", "edge", "at")} & set(table), where, "C14")
+            elif key == "assume":
+                self.assume(where, table)
             elif key == "prompt":
                 need(isinstance(table[key], bool), where, "C3")
             elif key == "max" and table[key] == inf:
@@ -174,6 +177,28 @@ class Reader:
         need(key != "stalls" or table.get("unit") != "clocks" or not labels, where, "C4")
         need(key not in EVENTS or labels, where, "C4")
         need(all(label in self.machines[table["machine"]] for label in labels), where, "C6")
+
+
+    def assume(self, where, table):
+        need(are(dict, table["assume"]), where, "C3")
+        need(len(table["assume"]) <= 16, where, "C12")
+        most = {"x": 0, "y": 0}
+        for place, one in enumerate(table["assume"]):
+            at = f"{where}[{place}]"
+            need(set(one) <= {"after", "x", "y"}, at, "C2")
+            need("after" in one, f"{at}.after", "C13")
+            need(isinstance(one["after"], str), f"{at}.after", "C3")
+            need(one["after"] in self.machines[table["machine"]], f"{at}.after", "C6")
+            for key, other in (("x", "y"), ("y", "x")):
+                if key in one:
+                    self.range(f"{at}.{key}", one[key], most[other])
+                    most[key] = max(most[key], one[key][1])
+            need("x" in one or "y" in one, f"{at}.x", "C13")
+
+    def range(self, where, numbers, other):
+        need(are(int, numbers), where, "C3")
+        need(len(numbers) == 2 and 0 <= numbers[0] <= numbers[1], where, "C4")
+        need((numbers[1] + 2) * (other + 2) <= MOST_PAIRS, where, "C4")
 
 
 def is_span_name(name):

@@ -14,7 +14,7 @@ from typing import NamedTuple
 SECONDS, KILOBYTES = 2, 300_000
 LONGEST_WAIT = 20  # seconds by the clock on the wall, where a call uses no processor
 ABSENT = {"", "..", "absent.file"}  # names that are no file's
-KEY = rb"(?:load|machine|span)\[\d+\](?:\.\w+)?|pins(?:\.\w+)?|\w+"
+KEY = rb"(?:load|machine|span)\[\d+\](?:\.assume\[\d+\])?(?:\.\w+)?|pins(?:\.\w+)?|\w+"
 NAMED = rb"(?:S5|V1|V2) \w+|S7 \w+ -?\d+|S(?:[1-46-9]|1[0-3])|L[1-4]|V[3-6]"
 PLACE = rb"\d+ x (?:\d+|any) y (?:\d+|any) from [01] to [01]"
 # What standard error has, by the status. The codes are those of docs/SPECIFICATION.md, "Ends".
@@ -23,8 +23,8 @@ LINES = {
     1: rb"piotool: (?:long \w+|source line \d+: (?:%s)|(?:config|second) (?:%s): C(?:\d+|7 \d+)|stimulus line \d+: T[1-5]"
     rb"|words line \d+: H[12]|nospan|table line \d+: B[1-4])\n" % (NAMED, KEY),
     2: rb"piotool: usage\n[\s\S]*",
-    3: rb"piotool: (?:second )?span [\w-]{1,32} (?:unproved at %s: U[1-4]|unproved by machine [0-3]: U5|table: start"
-    rb"|table: open at %s|table: bad at %s: U[1-4])\n" % (PLACE, PLACE, PLACE),
+    3: rb"piotool: (?:second )?span [\w-]{1,32} (?:unproved at %s: U[1-46]|unproved by machine [0-3]: U5|table: start"
+    rb"|table: open at %s|table: bad at %s: U[1-46])\n" % (PLACE, PLACE, PLACE),
     4: rb"piotool: shelf (?:source|config|second|stimulus|words|table|send)\n",
 }
 LINES = {status: re.compile(line) for status, line in LINES.items()}

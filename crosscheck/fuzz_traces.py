@@ -1,6 +1,7 @@
 """Between calls: traces, what is seen in them, what a long run takes."""
 
 import random
+import re
 
 import fuzz_models as models
 import inside_model
@@ -87,7 +88,7 @@ def observed(program, files, asked):
     for span, verdict, seen in zip(block.spans, told.out.splitlines(), measured.out.split(b"\n")):
         is_asked = span["unit"] == "clocks" and (span["machine"] not in disturbed or not observers_model.speaks_of_all(span))
         if b" proved " in verdict and is_asked and b" least " in seen:
-            least, most = int(seen.split()[-3]), int(seen.split()[-1])
+            least, most = map(int, re.search(rb" least (\d+) most (\d+)", seen).groups())
             need(span["min"] <= least and most <= span["max"], f"{verdict!r}, but {seen!r}", told, measured)
     return True
 

@@ -59,6 +59,7 @@ AT = {
 # More places: what stands before a fault on its line, and other forms. Sources are put together where there are several.
 PROGRAM = ".program p\n"
 TABLES = '[[load]]\nprogram = "p"\n[[machine]]\nid = 0\nprogram = "p"\n'
+SPAN = '[[span]]\nname = "h"\nmachine = 0\nfrom_pin = 0\nfrom_edge = "rise"\nto_pin = 0\nto_edge = "fall"\nmin = 1\nmax = 1\n'
 MORE = [
     ({"a.pio": PROGRAM + "\tset x, 32\n"}, "a.pio:2:9: error: data 32 is over 31, the most that SET has bits for [S7]"),
     ({"a.pio": PROGRAM + "/* c */ set x, /* d */ 32 ; e\n"}, "a.pio:2:24: error: data 32 is over 31, the most that SET has bits for [S7]"),
@@ -94,6 +95,26 @@ MORE = [
     (
         {"a.pio": PROGRAM + "    nop\n", "a.toml": TABLES + '[[span]]\nname = "h"\nmachine = 0\n'},
         "a.toml:6:1: error: the key from_pin is missing [C13]",
+    ),
+    (
+        {"a.pio": PROGRAM + "go:\n    nop\n", "a.toml": TABLES + SPAN * 2 + '[[span.assume]]\nafter = "go"\nx = [3, 65535]\n'},
+        "a.toml:26:9: error: x is out of its range; an array of two numbers from 0 to 65534, the least and the greatest [C4]",
+    ),
+    (
+        {"a.pio": PROGRAM + "go:\n    nop\n", "a.toml": TABLES + SPAN + '[[span.assume]]\nafter = "go"\nx = [0, 400]\ny = [4, 400]\n'},
+        "a.toml:18:5: error: y is out of its range; with the other register of this span it makes more than 131072 pairs [C4]",
+    ),
+    (
+        {"a.pio": PROGRAM + "    nop\n", "a.toml": TABLES + SPAN + 'assume = [{after = "go", x = [0, 4]}]\n'},
+        "a.toml:15:20: error: after is no label of the machine's program [C6]",
+    ),
+    (
+        {"a.pio": PROGRAM + "go:\n    nop\n", "a.toml": TABLES + SPAN + 'assume = [{after = "go"}]\n'},
+        "a.toml:15:11: error: the key x is missing [C13]",
+    ),
+    (
+        {"a.pio": PROGRAM + "go:\n    nop\n", "a.toml": TABLES + SPAN + '[[span.assume]]\nbefore = "go"\n'},
+        "a.toml:16:1: error: the key before isn't known here [C2]",
     ),
     (
         {"a.pio": PROGRAM + "    nop\n", "a.toml": 'a = """\n[[span]]\n"""\n' + TABLES},

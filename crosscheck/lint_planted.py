@@ -1,6 +1,7 @@
 """Mistakes that are planted into random set-ups: each has to be found, with its name, its file and its line."""
 
 import random
+import re
 from argparse import Namespace
 from pathlib import Path
 
@@ -21,11 +22,23 @@ max = 9
 """
 
 
+# A program of its own: X is never small after its first instruction, and it never comes to its last one.
+PROGRAM = """.program planted
+again:
+    mov x, !null
+    jmp again
+never:
+    nop
+"""
+ROOM, LENGTH = 29, 8  # where it is loaded, and the most words of another
+
+
 class Planted:
     """A random set-up without spans, and the mistakes that it can have: its texts, and what has to be said."""
 
     def __init__(self, seed):
         self.case = cases.Run(random.Random(seed))
+        self.source = self.case.source + PROGRAM
         self.machine = min(self.case.setups)
         self.last = max([line[0] for line in self.case.lines], default=0)
 
@@ -44,6 +57,17 @@ class Planted:
             feed = f"{self.last + 1} feed {self.machine} 0x7 0x8\n"
             yield config, stimulus + "\n# sent\n" + feed, ("every-word", "stim", line_after(stimulus, 3))
         yield from self.of_counts(config, stimulus)
+        if free is not None and not any(it[1] != "pin" and it[2][0] == free for it in case.lines):
+            yield from self.of_assumptions(config, stimulus, free)
+
+    def of_assumptions(self, config, stimulus, free):
+        """A label that its machine never comes to, and a range that the run breaks in its first clock."""
+        if any(int(at) + LENGTH > ROOM for at in re.findall(r"^at = (\d+)$", config, re.M)):
+            return
+        config = config.replace("[pins]", f'[[load]]\nprogram = "planted"\nat = {ROOM}\n[[machine]]\nid = {free}\nprogram = "planted"\n[pins]', 1)
+        config += SPAN.format(machine=free)
+        for label, name, more in (("never", "assume-never", 2), ("again", "assume-missed", 1)):
+            yield config + f'[[span.assume]]\nafter = "{label}"\nx = [0, 9]\n', stimulus, (name, "toml", line_after(config, more))
 
     def of_counts(self, config, stimulus):
         """Two machines without `set_count`, whose pins meet."""
@@ -69,10 +93,10 @@ def look(seed, folder):
     paths = [Path(folder) / f"planted.{ending}" for ending in ("pio", "toml", "stim")]
     number = 0
     for config, stimulus, (name, ending, line) in planted.mistakes():
-        for path, text in zip(paths, (planted.case.source, config, stimulus)):
+        for path, text in zip(paths, (planted.source, config, stimulus)):
             path.write_text(text)
         files = Files([str(paths[0])], str(paths[1]), str(paths[2]), Path(folder))
-        found, _ = findings(files, Namespace(clocks=None, mhz=None, seconds=0.02, table=[], words=None))
+        found, _ = findings(files, Namespace(clocks=40 if name == "assume-missed" else None, mhz=None, seconds=0.02, table=[], words=None))
         number += 1
         if not any(it.code == name and it.place.file.endswith(ending) and it.place.line == line for it in found):
             missed.append(f"seed {seed}: no {name} at line {line} of the {ending}; {''.join(it.lines() for it in found)}")

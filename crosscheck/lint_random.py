@@ -80,7 +80,7 @@ def is_contested(said, run, spans, clocks):
     if name == "span-not-seen":
         seen = observers_model.Run(case.memory, case.setups, case.pins, case.lines, clocks)
         lines = observers_model.seen(cases.placed(spans, case.setups), seen).splitlines()
-        return not any(line == f"span {text.partition(': ')[0].removeprefix('span ')} seen 0" for line in lines)
+        return not any(line.partition(" assumed ")[0] == f"span {text.partition(': ')[0].removeprefix('span ')} seen 0" for line in lines)
     if name == "bound-not-tight":
         return is_seen_outside(text, run, spans)
     if name == "stands-still":
@@ -91,11 +91,25 @@ def is_contested(said, run, spans, clocks):
         return any(state[number][1] for state in run.states) and not span.get("stalls")
     if name == "without-never" or name == "event-never" and " never comes to " in text:
         return any(state[numbers[-1]][0] == case.setups[numbers[-1]]["start"] for state in run.states)
+    if name in ("assume-never", "assume-missed"):
+        return is_met(text, case, spans, clocks)
     if name == "event-never":
         return is_made_at_start(text, run, spans)
     if name == "no-machine":
         return numbers[0] in case.setups
     return name == "every-word"  # all of a case's are decimal
+
+
+def is_met(text, case, spans, clocks):
+    """Whether a run shows that its instruction at the start, after which all is assumed here, keeps what it is said to break or never to keep."""
+    span = next(it for it in cases.placed(spans, case.setups) if text.startswith(f"span {it['name']}:"))
+    seen = observers_model.Run(case.memory, case.setups, case.pins, case.lines, clocks)
+    if " this run breaks " in text:
+        return seen.assumed_up_to(span) != numbers_in(text)[-1]
+    if " never comes to " in text:
+        return any(it.address == case.setups[span["machine"]]["start"] for it in seen.did[span["machine"]])
+    kept = [not seen.misses(span, clock) for clock, it in enumerate(seen.did[span["machine"]]) if it.finishes and it.address == span["assume"][0]["after"]]
+    return kept[:1] == [True] or " comes to " in text
 
 
 def is_made_at_start(text, run, spans):

@@ -11,7 +11,10 @@ from piotool.span_model import EVENTS
 
 @dataclass(frozen=True)
 class Did:
-    """What a machine did in a clock, and how it stood at its start: PC, whether it waited, whether it came to the instruction there next."""
+    """What a machine did in a clock, and how it stood at its start: PC, whether it waited, whether it came to the instruction there next.
+
+    After it: X, Y, and whether no delay is left.
+    """
 
     address: int
     waits: bool
@@ -19,6 +22,9 @@ class Did:
     works: bool  # a tick of the instruction in memory there, its first one or a late one
     finishes: bool
     breaks: bool  # a line disabled it, or restarted its divider
+    x: int
+    y: int
+    rests: bool
 
 
 class Run:
@@ -43,14 +49,32 @@ class Run:
                 has_tick = block.ticks[number].lasts[-1:] == [clock]
                 works = has_tick and not delay and has_none
                 comes = not delay and has_none and not begun
-                finishes = works and not block.machines[number].begun
-                self.did[number].append(Did(pc, begun, comes, works, finishes, (clock, number) in broken))
+                after = block.machines[number]
+                finishes = works and not after.begun
+                has_broken = (clock, number) in broken
+                self.did[number].append(Did(pc, begun, comes, works, finishes, has_broken, after.x, after.y, not after.delay))
 
     def excuses(self, span, clock):
         """Whether a span says nothing any more, in a clock, of the from-edges before it."""
         did = self.did[span["machine"]][clock]
         waits = span.get("prompt") and did.waits and did.address not in span.get("stalls", [])
         return waits or did.comes and did.address in span.get("without", []) or did.breaks and span["unit"] == "clocks"
+
+
+    def misses(self, span, clock):
+        """Whether an instruction finished in a clock, and left X or Y out of a range that the span assumes after it."""
+        did = self.did[span["machine"]][clock]
+        own = [it for it in span.get("assume", []) if did.finishes and it["after"] == did.address]
+        return any(not it[name][0] <= value <= it[name][1] for it in own for name, value in (("x", did.x), ("y", did.y)) if name in it)
+
+    def assumed_up_to(self, span):
+        """The first clock in which the delay behind an instruction is over that left X or Y otherwise than assumed; or none."""
+        has_missed = False
+        for clock, did in enumerate(self.did[span["machine"]]):
+            has_missed = has_missed or self.misses(span, clock)
+            if has_missed and did.rests:
+                return clock
+        return None
 
 
 class Shown:
@@ -62,7 +86,7 @@ class Shown:
 
 def speaks_of_all(span):
     """Whether a span speaks of each pair of its edges, by what its keys say."""
-    return not span.get("prompt") and not any(span.get(key) for key in ("without", *EVENTS))
+    return not span.get("prompt") and not any(span.get(key) for key in ("without", "assume", *EVENTS))
 
 
 def levels_of(shown, pin, before, first=0):
@@ -99,9 +123,11 @@ def seen(spans, run):
         pairs = [(start, min(end for end in ends if end > start)) for start in starts if ends and ends[-1] > start]
         if not speaks_of_all(span):
             pairs = [it for it in pairs if not any(run.excuses(span, clock) for clock in range(it[0] + 1, it[1] + 1))]
-        times = [end - start for start, end in pairs]
+        missed = run.assumed_up_to(span) if span.get("assume") else None
+        times = [end - start for start, end in pairs if missed is None or end < missed]
         text += f"span {span['name']} seen {len(times)}"
-        text += f" least {min(times)} most {max(times)}\n" if times else "\n"
+        text += f" least {min(times)} most {max(times)}" if times else ""
+        text += "\n" if missed is None else f" assumed up to {missed}\n"
     return text
 
 

@@ -415,7 +415,52 @@ over:
     return source, SETUP + "set_count = 0\n" + events(1, turns, 'from_done = ["count"]\nto_done = ["over"]\n')
 
 
+def word_of_range(random):
+    """A pulse lasts as long as a word says, of which a range is assumed; one end of it is a tick too many or too few: a run with that word."""
+    least = random.randrange(32, 3000)
+    most = least + random.randrange(1, 300)
+    source = """
+.program q
+.wrap_target
+    pull
+load:
+    mov x, osr
+    set pins, 1
+turn:
+    jmp x-- turn
+    set pins, 0
+.wrap
+"""
+    bounds = random.choice([(least + 3, most + 2), (least + 2, most + 1)])
+    more = f'[[span.assume]]\nafter = "load"\nx = [{least}, {most}]\n'
+    return source, SETUP + "[pins]\nout = [0]\n" + pulse(*bounds, unit=random.choice(["ticks", "clocks"]), more=more)
+
+
+def level_of_range(random):
+    """A pulse of a PWM is three ticks longer for each step of the level, of which a range is assumed: a run with the greatest level."""
+    top = random.randrange(2, 31)
+    source = f"""
+.program q
+.side_set 1 opt
+    pull side 0
+level:
+    mov x, osr
+    set y, {top}
+count:
+    jmp x!=y noset
+    jmp skip side 1
+noset:
+    nop
+skip:
+    jmp y-- count
+"""
+    level = random.randrange(1, top + 1)
+    keys = "set_count = 0\n[pins]\nout = [0]\n"
+    return source, SETUP + keys + pulse(2, 3 * level + 1, more=f'assume = [{{after = "level", x = [0, {level}]}}]\n')
+
+
 KINDS = (
+    word_of_range, level_of_range,
     late_sample, second_pulse, ends_in_a_loop,
     line_let_go_late, either_direction, slow_though_prompt, another_way,
     secret_word, late_frame, pattern_of_pin, deep_fifo, full_fifo, counted_by_data, nested_loops,

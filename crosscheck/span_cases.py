@@ -28,7 +28,13 @@ class Timed(Run):
         self.written = random.choice(["levels", "levels", "directions"])  # what the pulses of its programs are of
         super().__init__(random)
         self.spans = [self.span(number) for number in range(random.randrange(1, 5))]
-        self.config += as_tables(span | {key: self.labels(span, key) for key in LABELS if key in span} for span in self.spans)
+        self.config += as_tables(self.named(span) for span in self.spans)
+
+    def named(self, span):
+        """A span with labels in the place of addresses."""
+        at = self.setups[span["machine"]]["at"]
+        assume = [one | {"after": f"l{one['after'] - at}"} for one in span.get("assume", [])]
+        return span | {key: self.labels(span, key) for key in LABELS if key in span} | ({"assume": assume} if assume else {})
 
     def labels(self, span, key):
         """The labels of the instructions that a key of a span names."""
@@ -149,7 +155,34 @@ class Timed(Run):
             "stalls": random.sample(addresses, min(stalls, len(addresses))),
             "prompt": random.random() < 0.3,
             "without": random.sample(addresses, min(without, len(addresses))),
+            **self.assumed(addresses),
         }
+
+    def assumed(self, addresses):
+        """What a span assumes, if anything: mostly after instructions that write X or Y, in small ranges, or one that is wide."""
+        random = self.random
+        if random.random() < 0.55:
+            return {}
+        writing = [at for at in addresses if writes_register(self.memory[at])] or list(addresses)
+        wide = random.choice([None] * 8 + ["x", "y"])  # a register with a range that isn't small
+        return {"assume": [self.assumption(writing if random.random() < 0.9 else addresses, wide) for _ in range(random.choice([1, 1, 1, 2, 2, 3]))]}
+
+    def assumption(self, addresses, wide):
+        """What is assumed after one of these instructions."""
+        random = self.random
+        at = random.choice(addresses)
+        usual = registers_of(self.memory[at]) or ["x", "y"]
+        names = random.choice([usual, usual, usual, ["x"], ["y"], ["x", "y"]])
+        return {"after": at} | {name: self.range_of(name == wide) for name in names}
+
+    def range_of(self, is_wide):
+        """A range of numbers."""
+        random = self.random
+        if is_wide:
+            least = random.choice([0, 1, 40, random.randrange(300)])
+            return [least, least + random.choice([0, 1, 40, random.randrange(300)])]
+        least = random.choice([0, 0, 1, 2, 31, random.randrange(40)])
+        return [least, least + random.choice([0, 0, 1, 2, 5, random.randrange(20)])]
 
     def end(self, end, kind, pin, addresses):
         """The keys of an end: an edge of a pin, of all instructions or of some; or the ends of some instructions."""
@@ -182,3 +215,16 @@ class Timed(Run):
         if random.random() < 0.2:
             return min(max(near[0], 0), MOST), inf
         return sorted(min(max(bound, 0), MOST) for bound in near)
+
+
+def registers_of(word):
+    """The registers that an instruction writes, of X and Y."""
+    kind, high = word >> 13, word >> 5 & 7
+    if kind == span_model.JMP:
+        return {2: ["x"], 4: ["y"]}.get(high, [])
+    return {1: ["x"], 2: ["y"]}.get(high, []) if kind in (span_model.OUT, span_model.MOV, span_model.SET) else []
+
+
+def writes_register(word):
+    """Whether an instruction writes X or Y."""
+    return bool(registers_of(word))

@@ -12,8 +12,8 @@ LEADING_ZERO = re.compile(r"(?<!\d)0\d")
 HIGHEST_AGE = 2**24
 
 
-def rows_of(text):
-    """The rows of a table: contexts with ages; or the line of its first fault."""
+def rows_of(text, limits=(31, 31)):
+    """The rows of a table of a span whose X and Y are followed so far: contexts with ages; or the line of its first fault."""
     lines = text.decode("latin1").split("\n")
     if lines[0] != "pio table 1" or len(lines) == 1:
         return {}, "table line 1: B1"
@@ -30,7 +30,7 @@ def rows_of(text):
             return {}, f"table line {number}: B1"
         address, x, y, level, other, least, most = (None if it in ("any", None) else int(it) for it in row.groups())
         ages = None if least is None else (least, most)
-        if address > 31 or max(x or 0, y or 0) > 31 or max(level, other) > 1 or ages and not least <= most <= HIGHEST_AGE:
+        if address > 31 or (x or 0) > limits[0] or (y or 0) > limits[1] or max(level, other) > 1 or ages and not least <= most <= HIGHEST_AGE:
             return {}, f"table line {number}: B2"
         context = span_model.Context(address, x, y, level, other)
         if context.order() <= last:

@@ -8,7 +8,7 @@ from typing import Any, Optional
 from piotool.machine_model import Setup, period_of, rooms_of
 from piotool.set_up import SetUp
 from piotool.shares_model import Touched
-from piotool.span_model import end_of
+from piotool.span_model import end_of, meet_of
 
 JMP, WAIT, IN, OUT, PUSH_PULL, MOV, IRQ, SET = range(8)
 PINS, X, Y, NULL, PINDIRS, PC, ISR, OSR_OR_EXEC = range(8)
@@ -106,6 +106,10 @@ class AskedMachine:
         self.runs_data = any(it.kind == OUT and it.high == 7 or it.kind == MOV and it.high == TO_EXEC for it in words)
         self.jumps_by_data = any(it.kind in (OUT, MOV) and it.high == PC for it in words)
 
+    def look_at(self, names: set[str]) -> None:
+        """Adds that the span looks into these registers."""
+        self.reads_x, self.reads_y = self.reads_x or "x" in names, self.reads_y or "y" in names
+
     def written(self) -> tuple[set[int], set[int]]:
         """The pins whose levels and whose directions an instruction in reach may write."""
         levels: set[int] = set()
@@ -140,11 +144,15 @@ class Asked:
         # Of each end that is an edge the pin, and the signal, 0 a level and 1 a direction, as `written` and a state have them; else none.
         self.ends = tuple(("pd".index(it.wire[0]), int(it.wire[1:])) if it.wire else None for it in self.events)
         self.edges = [it for it in self.ends if it]
+        assume = span.get("assume", [])
+        self.meets = {(one["after"], name): it for one in assume for name in ("x", "y") if (it := meet_of(assume, one["after"], name))}
         self.watched = frozenset(at for it in self.events if it.wire is None for at in it.addresses or ())
+        self.watched |= {one["after"] for one in assume}
         self.machines = [machines[number] for number in sorted(self.chosen(machines))]
         self.others = [it for it in machines.values() if it not in self.machines]
         self.numbers = [it.number for it in self.machines]
         self.own = self.numbers.index(span["machine"])
+        self.machines[self.own].look_at({name for _, name in self.meets})
         reads: set[int] = set().union(*(it.touched.reads for it in self.machines))
         levels: set[int] = set().union(*(it.written()[0] for it in self.machines))
         self.directed: set[int] = set().union(*(it.written()[1] for it in self.machines))

@@ -12,6 +12,7 @@ from typing import Any, Callable, Optional
 from piotool import span_model
 from piotool.asked import MOV, OUT, PINDIRS, PINS, Asked
 from piotool.lazy_state import MachineState, State
+from piotool.lazy_values import Value
 from piotool.span_model import Bounds, Context, Course, Wires, bounds_of, mapping, wires
 
 TICK = 0.6  # what a tick weighs that is still to be passed
@@ -75,6 +76,7 @@ class Guide:
             if context not in self.rows:
                 self.rows[context] = self.model.courses(context)
                 ahead += [course.after for course in self.rows[context] if course.after is not None]
+        self.is_whole = not ahead
         self.before: dict[Context, list[Course]] = {}
         for course in self.all_courses():
             self.before.setdefault(course.after, []).append(course)
@@ -109,7 +111,7 @@ class Guide:
         most = dict.fromkeys(self.rows, 0.0)
         for context, courses in self.rows.items():
             for course in courses:
-                if course.carried() is None:
+                if course.carried() is None or course.is_unmet:
                     most[context] = max(most[context], lasted(course))
                 else:
                     missing[context] += 1
@@ -139,11 +141,11 @@ class Guide:
 
     def stalls_in(self, course: Course) -> bool:
         """Whether the course waits where the span doesn't name it, or goes where nothing is known."""
-        return course.after is None or course.waits and course.before.address not in self.stalls
+        return course.after is None and not course.is_unmet or course.waits and course.before.address not in self.stalls
 
     def opens_well(self, course: Course) -> bool:
         """Whether a from-edge of the course may lead to a violation."""
-        if course.after is None:
+        if course.after is None and not course.is_unmet:
             return True
         for place, tick in enumerate(course.ticks):
             if tick.begins and self.goes_wrong(course, place):
@@ -161,7 +163,7 @@ class Guide:
                 return True
             if tick.ends:
                 return count < self.bounds.least
-        return self.can_break(course.after, count, count)
+        return not course.is_unmet and self.can_break(course.after, count, count)
 
     def can_break(self, context: Context, low: float, high: float) -> bool:
         """Whether open spans of these ages may come to a violation."""
@@ -185,8 +187,15 @@ class Guide:
         if context is not None:
             word = self.asked.block.memory[context.address]
             x, y = (self.model.register_after(word, which, context) for which in (span_model.TO_X, span_model.TO_Y))
+            x, y = (self.narrowed(context.address, *it) for it in (("x", x, machine.x), ("y", y, machine.y)))
         found = Context(machine.pc, x, y, from_level, to_level)
         return found if found in self.rows else None
+
+    def narrowed(self, address: int, name: str, known: Optional[int], value: Value) -> Optional[int]:
+        """What is known of a register, which is this, after the instruction at an address."""
+        if (address, name) in self.asked.meets:
+            return value if isinstance(value, int) else known
+        return known if known is not None and known <= self.model.limits[name == "y"] else None
 
     def distance(self, state: State) -> float:
         """At least how far a state is from a violation; infinite where it comes to none."""
@@ -219,4 +228,5 @@ def guide_of(asked: Asked, is_guided: bool = True) -> Any:
     are_shared = any(asked.writes_ends(it) for it in others)
     if not is_guided or are_shared or asked.machines[asked.own].runs_data:
         return Unguided()
-    return Guide(asked)
+    guide = Guide(asked)
+    return guide if guide.is_whole or not asked.meets else Unguided()

@@ -8,7 +8,7 @@ from math import inf
 from typing import Any, Optional
 
 from piotool.asked import JMP, SET, Asked, AskedMachine
-from piotool.lazy_choices import Choices
+from piotool.lazy_choices import Choices, Dead
 from piotool.lazy_machine import Tick
 from piotool.lazy_state import MachineState, State
 from piotool.lazy_values import Bits, Value, new_bits
@@ -133,17 +133,23 @@ class Stretch(Choices):
             has_tick = machine.tick * it.period >> 8 == state.clock
             machine.tick += has_tick
             ticks.append(Tick(self, it, machine) if has_tick else None)
+        own = ticks[asked.own]
+        act = own if own is not None and own.word is not None and not has_word else None
+        misses = act is not None and act.finishes and not self.is_kept(act.address, state.machines[asked.own])
+        if misses and not state.machines[asked.own].delay:
+            raise Dead
         levels = self.merged(ticks)
         for tick in filter(None, ticks):
             state.flags &= ~tick.lowers
         for tick in filter(None, ticks):
             state.flags |= tick.raises
-        for it, machine, own in zip(asked.machines, state.machines, ticks):
-            settle(it, machine, own is not None and own.takes, own is not None and own.gives, 1)
+        for it, machine, tick in zip(asked.machines, state.machines, ticks):
+            settle(it, machine, tick is not None and tick.takes, tick is not None and tick.gives, 1)
         old = state.now
         state.earlier, state.before, state.now = state.before, state.now, levels
-        own = ticks[asked.own]
-        self.age(old, levels, own, has_word)
+        self.age(old, levels, own, act)
+        if misses and self.found is None:
+            self.end_in_delay()
         if self.found is not None:
             return
         if own is not None and own.finishes:
@@ -169,6 +175,19 @@ class Stretch(Choices):
             if signal == 0:
                 levels[place[pin]] = self.bit(levels[place[pin]])
         return tuple(map(self.now, levels)), tuple(directions)
+
+    def is_kept(self, address: int, machine: MachineState) -> bool:
+        """Whether X and Y are as assumed after the instruction at an address; what is free is chosen so, where that can be."""
+        return all(self.is_within(machine, name, *it) for name in ("x", "y") if (it := self.asked.meets.get((address, name))))
+
+    def end_in_delay(self) -> None:
+        """Looks for an excess in the delay after an instruction that leaves X or Y otherwise than assumed, up to before its last tick."""
+        machine, asked = self.state.machines[self.asked.own], self.asked
+        last = (machine.tick + machine.delay - 1) * asked.machines[asked.own].period >> 8
+        self.look_for_excess(machine.delay - 1, last - 1)
+        if self.found is None:
+            self.is_complete = self.is_complete and asked.is_alone
+            raise Dead
 
     def is_excused(self, machine: MachineState) -> bool:
         """Whether the span says nothing any more of a from-edge before this clock, by its machine's state at the clock's start."""
@@ -200,10 +219,9 @@ class Stretch(Choices):
         signal, place = end[0], self.asked.place[end[1]]
         return old[signal][place] != new[signal][place] == event.bit
 
-    def age(self, old: tuple[Bits, Bits], new: tuple[Bits, Bits], own: Optional[Tick], has_word: bool) -> None:
+    def age(self, old: tuple[Bits, Bits], new: tuple[Bits, Bits], own: Optional[Tick], act: Optional[Tick]) -> None:
         """Counts the clock's tick, and looks at its events; those of a word that was pending count for no address."""
         state, asked = self.state, self.asked
-        act = own if own is not None and own.word is not None and not has_word else None
         if own is not None:
             is_named = self.is_named(own)
             if own.is_late and not is_named and state.newest is not None and asked.span["max"] != inf:

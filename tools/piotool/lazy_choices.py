@@ -13,6 +13,7 @@ from piotool.machine_model import ALL_ONES
 
 FEW_BITS = 5  # so many free bits of a counter are all tried
 COUNTERS = (0, ALL_ONES, 1, 2, 3, 7, 31, 255)  # what else is tried of a counter
+MOST_NUMBERS = 40  # so many numbers of a range are all tried
 REGISTERS = ("x", "y", "isr", "osr")
 # The words that are tried where data is run, before side-set and delay: set pins, nop, mov pins from null.
 RUN_WORDS = (0xE000, 0xE001, 0xE002, 0xE01F, 0xA042, 0xA003, 0xA00B)
@@ -154,6 +155,24 @@ class Choices:
             most = self.asked.span["min" if self.asked.span["max"] == inf else "max"]
             return self.one_of(value, [*COUNTERS, most & ALL_ONES, most * 2 & ALL_ONES])
         return self.chosen_number(value)
+
+    def is_within(self, machine: MachineState, name: str, least: int, most: int) -> bool:
+        """Whether a register is in a range. Where bits of it are free, it is chosen as a number of it: each of few, else some."""
+        value: Value = getattr(machine, name)
+        if isinstance(value, int):
+            return least <= value <= most
+        numbers = range(least, most + 1)
+        if len(numbers) > MOST_NUMBERS:
+            self.is_complete = False
+            near = (least, most, least + 1, most - 1, (least + most) // 2)
+            numbers = [*near, *(it for it in COUNTERS if least <= it <= most)]
+        fitting = [it for it in dict.fromkeys(numbers) if differing(value, it) is not None]
+        if not fitting:
+            return False
+        number = fitting[self.choose(len(fitting))]
+        for place, it in enumerate(value):
+            self.demand(it, number >> place & 1)
+        return True
 
     def chosen_number(self, value: Value) -> int:
         """A word as a number, of which each free bit is chosen."""

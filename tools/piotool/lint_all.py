@@ -39,6 +39,7 @@ def findings(files: Files, words: Namespace) -> tuple[list[Said], bool]:
     tight = spans.tight()
     found += refused
     found += lint.found(files.stimulus is not None)
+    found += spans.of_assumptions()
     found += spans.unclosed()
     found += spans.of_bounds(tight)
     found += spans.of_rates(words.mhz) if words.mhz else []

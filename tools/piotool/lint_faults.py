@@ -20,8 +20,10 @@ from piotool.set_up import LABELS
 
 SOURCE = re.compile(r"piotool: source line (\d+): (\w+)(?: (\S+))?(?: (-?\d+))?")
 CONFIG = re.compile(r"piotool: config (\S+): (\w+)(?: (\d+))?")
-ELEMENTS = {"stalls": "stall"} | {key: f"label of {key}" for key in LABELS[1:]}  # what an element is called
+ELEMENTS = {"stalls": "stall", "assume": "assumption"} | {key: f"label of {key}" for key in LABELS[1:]}  # what an element is called
 PATH = re.compile(r"(\w+)\[(\d+)\](?:\.(\w+))?")
+PART = re.compile(r"\w+")
+MOST_OF_RANGE = 65534
 ABOVE = {  # the greatest value of each number, and what has it
     "jmp": (0, 31, "the last address"),
     "polarity": (0, 1, "the greatest polarity"),
@@ -155,7 +157,7 @@ def of_config(files: Files, path: str, code: str, value: str) -> Said:
     if code == "C1":
         at, what = fault_of(files.config_bytes)
         return Said(Place(files.config or "", *at), "error", sentence(code, value=what), code)
-    key, kind = path.rpartition(".")[2], path.partition("[")[0].partition(".")[0]
+    key, kind = path.rpartition(".")[2], "assume" if ".assume[" in path else path.partition("[")[0].partition(".")[0]
     limit = LIMITS.get((kind, key), LIMITS.get(("", key), ""))
     if code == "C2":
         return unknown_key(files, path, kind)
@@ -170,6 +172,8 @@ def of_config(files: Files, path: str, code: str, value: str) -> Said:
         place = files.key_place(path.rpartition(".")[0])
     elif code == "C4" and key == "max" and is_crossed(files, path):
         return Said(place, "error", "max is below min of the same span", code)
+    elif code == "C4" and kind == "assume" and is_range(value_at(files, path)):
+        return Said(place, "error", sentence(code, key=key, limit="with the other register of this span it makes more than 131072 pairs"), code)
     elif code == "C4" and (kind, key) == ("load", "program"):
         return Said(place, "error", "this program is loaded already", code)
     return Said(place, "error", sentence(code, key=key, value=value, limit=limit), code)
@@ -201,10 +205,9 @@ def value_at(files: Files, path: str) -> Any:
     """The value of a path, or nothing."""
     try:
         tables = tomllib.loads(text_of(files.config_bytes).removeprefix("\ufeff"))
-        if it := PATH.fullmatch(path):
-            return tables[it[1]][int(it[2])].get(it[3])
-        kind, _, key = path.partition(".")
-        return tables[kind].get(key)
+        for part in PART.findall(path):
+            tables = tables[int(part) if part.isdigit() else part]
+        return tables
     except (ValueError, KeyError, IndexError, TypeError, AttributeError, RecursionError):
         return None
 
@@ -214,11 +217,12 @@ def bad_element(files: Files, path: str, code: str, kind: str) -> Optional[int]:
     values = value_at(files, path)
     if not isinstance(values, list):
         return None
-    wanted = int if kind == "pins" else str if path.rpartition(".")[2] in LABELS else dict
+    wanted = int if kind in ("pins", "assume") else str if path.rpartition(".")[2] in LABELS else dict
+    most = MOST_OF_RANGE if kind == "assume" else 31
     if code == "C3":
         return next((place for place, it in enumerate(values) if type(it) is not wanted), None)
     if code == "C4" and wanted is int:
-        return next((place for place, it in enumerate(values) if not 0 <= it <= 31), None)
+        return next((place for place, it in enumerate(values) if not 0 <= it <= most), None)
     if code == "C6":
         labels = labels_of(files, path)
         return next((place for place, it in enumerate(values) if it not in labels), None)
@@ -241,6 +245,11 @@ def labels_of(files: Files, path: str) -> set[str]:
         if name in names:
             found |= {it.name.text for it in lines if it.name and it.directive is None and it.first.line <= ends}
     return found
+
+
+def is_range(values: Any) -> bool:
+    """Whether values are the least and the greatest number of a range."""
+    return isinstance(values, list) and len(values) == 2 and values[0] <= values[1]
 
 
 def is_crossed(files: Files, path: str) -> bool:

@@ -11,8 +11,9 @@ KEYS = {
     "pins": ("high", "level", "out", "bypass"),
     "span": (
         "name", "machine", "from_pin", "to_pin", "from_edge", "to_edge", "unit", "min", "max", "stalls", "prompt", "without",
-        "from_at", "to_at", "from_done", "to_done",
+        "from_at", "to_at", "from_done", "to_done", "assume",
     ),
+    "assume": ("after", "x", "y"),
 }  # fmt: skip
 PIN = "a number from 0 to 31"
 TRUTH = "true or false"
@@ -51,6 +52,10 @@ LIMITS = {
     ("span", "stalls"): "an array of labels; none in clocks",
     ("span", "prompt"): TRUTH,
     ("span", "without"): "an array of labels",
+    ("span", "assume"): "tables, each below [[span.assume]]",
+    ("assume", "after"): "the name of a label",
+    ("assume", "x"): "an array of two numbers from 0 to 65534, the least and the greatest",
+    ("assume", "y"): "an array of two numbers from 0 to 65534, the least and the greatest",
     ("load", "load"): "tables, each below [[load]]",
     ("machine", "machine"): "tables, each below [[machine]]",
     ("span", "span"): "tables, each below [[span]]",

@@ -14,7 +14,7 @@ from piotool.lint_said import Place, Said
 from piotool.machine_model import period_of
 from piotool.run_ends import ends_of
 
-SEEN = re.compile(r"span (\S+) seen (\d+)(?: least (\d+) most (\d+))?")
+SEEN = re.compile(r"span (\S+) seen (\d+)(?: least (\d+) most (\d+))?(?: assumed up to (\d+))?")
 FLAG, GPIO, PIN = 2, 0, 1  # what a WAIT waits for
 
 
@@ -57,21 +57,24 @@ class RunLint:
         words += ["--stimulus", self.files.own_stimulus] if self.files.own_stimulus else []
         return [*words, "--clocks", self.clocks]
 
-    def measured(self) -> list[tuple[int, int, int]]:
-        """How often each span is seen, and its fewest and most clocks."""
+    def measured(self) -> list[tuple[int, int, int, Optional[int]]]:
+        """How often each span is seen, its fewest and most clocks, and the clock up to which what it assumes is so, if not to the end."""
         status, text, told = piotool("measure", *self.words())
         if status != 0:
             raise Fault(told.removeprefix("piotool: "))
         found = [SEEN.fullmatch(line) for line in text.splitlines()]
-        return [(int(it[2]), int(it[3] or 0), int(it[4] or 0)) for it in found if it]
+        return [(int(it[2]), int(it[3] or 0), int(it[4] or 0), int(it[5]) if it[5] else None) for it in found if it]
 
     def of_spans(self, tight: list[Optional[tuple[int, int]]]) -> Iterator[Said]:
         """Spans that the run never sees, or at neither tight bound (in ticks) and in less than half of what lies between."""
         if not self.clocks or not self.lint.block.tables["span"]:
             return
         disturbed = {numbers[0] for _, word, numbers in self.lines if word in ("disable", "restart")}
-        for place, (table, (seen, least, most)) in enumerate(zip(self.lint.block.tables["span"], self.measured())):
+        for place, (table, (seen, least, most, missed)) in enumerate(zip(self.lint.block.tables["span"], self.measured())):
             at, name = self.files.key_place(f"span[{place}]"), table["name"]
+            if missed is not None:
+                text = f"span {name}: this run breaks what it assumes; from clock {missed} on nothing is said of it"
+                yield Said(self.files.key_place(f"span[{place}].assume"), "warning", text, "assume-missed")
             if not seen:
                 text = f"span {name}: this run of {self.clocks} clocks never sees it"
                 yield Said(at, "warning", text, "span-not-seen")

@@ -66,6 +66,7 @@ SENTENCES = {
     "U3": "span {name}: this may wait while the span is open, and stalls doesn't name {value}",
     "U4": "span {name}: data says which instruction comes after this one",
     "U5": "span {name}: machine {value} may write a pin of the span too: its {limit}",
+    "U6": "span {name}: an assumption can't hold here: {limit}",
 }
 
 # The names of the warnings, each with what it says in short; docs/LINT.md has an entry for each.
@@ -82,8 +83,10 @@ WARNINGS = {
     "without-never": "a label of without that the machine never comes to",
     "prompt-never": "prompt, and no wait that it speaks of",
     "event-never": "a label of an event that never is one",
+    "assume-never": "no run meets what is assumed after a label",
     "never-closes": "no to-edge can end a span",
     "span-not-seen": "the run never sees a span",
+    "assume-missed": "the run breaks what a span assumes",
     "bounds-not-seen": "the run never sees a span at its bounds",
     "bound-not-tight": "a bound isn't tight by more than half",
     "stands-still": "a machine stands still from some clock on",

@@ -13,7 +13,7 @@ from piotool.machine_model import period_of
 from piotool.setups import MOST
 from piotool.span_model import Graph, graph_of, mapping, sharing
 from piotool.stimulus_lines import text_of
-from piotool.telling import broken_text, event_of
+from piotool.telling import broken_text, event_of, unmet_text
 from piotool.ways import Way, way_to
 
 MOST_LINES = 3  # of a stimulus that is shown
@@ -30,6 +30,7 @@ class SpanLint:
         self.files, self.lint, self.block, self.seconds = files, lint, lint.block, seconds
         self.verdicts = verdicts
         self.tables = self.block.tables["span"]
+        self.graphs: dict[int, Graph] = {}  # by the place of their span
 
     # Refused spans.
 
@@ -57,6 +58,8 @@ class SpanLint:
         if code == "U3":
             label = self.block.label_at(span["machine"], address)
             parts["value"] = f'"{label}"' if label else "it, since it has no label"
+        elif bad and code == bad[1] == "U6":
+            parts["limit"] = unmet_text(graph.machine, bad[0])
         elif bad and bad[1] == code:
             parts["limit"] = reason(graph, way_to(graph, *bad), span)
         return Said(at, "error", sentence(code, **parts), code)
@@ -80,17 +83,40 @@ class SpanLint:
         more = [f".. and {len(lines) - MOST_LINES} more, which piotool-break writes"] if len(lines) > MOST_LINES else []
         return notes + [f"the stimulus: {line}" for line in lines[:MOST_LINES]] + more
 
+    # Assumptions.
+
+    def of_assumptions(self) -> Iterator[Said]:
+        """Assumptions that no run meets, by the checker's contexts; what U6 refuses is an error already."""
+        for place, (table, verdict) in enumerate(zip(self.tables, self.verdicts)):
+            span = self.block.span(table)
+            for number, one in enumerate(span.get("assume", [])):
+                label, address = table["assume"][number]["after"], one["after"]
+                if address not in self.lint.machines[table["machine"]].touched.reach:
+                    text = f'machine {table["machine"]} never comes to "{label}"'
+                elif not (rows := [it for context, it in self.widest(place).rows.items() if context.address == address]):
+                    text = f'no run that keeps its assumptions comes to "{label}"'
+                elif all(it.is_unmet for courses in rows for it in courses) and not verdict.endswith(": U6"):
+                    text = f'no run keeps what it assumes after "{label}"'
+                else:
+                    continue
+                yield Said(self.files.config_place(f"span[{place}].assume[{number}].after"), "warning", f"span {table['name']}: {text}", "assume-never")
+
+    def widest(self, place: int) -> Graph:
+        """The graph of a span under the widest bounds."""
+        if place not in self.graphs:
+            span = self.block.span(self.tables[place]) | {"min": 0, "max": MOST}
+            self.graphs[place] = graph_of(self.block.memory, self.block.setups, self.block.pins, span)
+        return self.graphs[place]
+
     # Bounds.
 
     def tight(self) -> list[Optional[tuple[int, int]]]:
         """The tight bounds in ticks of each proved span that opens and closes, as `piotool-tight` finds them; else none."""
         found: list[Optional[tuple[int, int]]] = []
-        for table, verdict in zip(self.tables, self.verdicts):
+        for place, verdict in enumerate(self.verdicts):
             ages = None
             if " proved opens yes" in verdict and " closes no" not in verdict:
-                widest = self.block.span(table) | {"min": 0, "max": MOST}
-                graph = graph_of(self.block.memory, self.block.setups, self.block.pins, widest)
-                ages = graph.tight_ages()
+                ages = self.widest(place).tight_ages()
             found.append(ages)
         return found
 
@@ -98,7 +124,7 @@ class SpanLint:
         """Spans that no to-edge ends, so that their least is never asked."""
         for place, (table, verdict) in enumerate(zip(self.tables, self.verdicts)):
             if " proved opens yes" in verdict and " closes no" in verdict:
-                what = "no to-edge comes on the ways that it speaks of" if table.get("prompt") or table.get("without") else NO_EDGE
+                what = "no to-edge comes on the ways that it speaks of" if any(table.get(key) for key in ("prompt", "without", "assume")) else NO_EDGE
                 text = f"span {table['name']}: {what}, so min is never asked"
                 key = "to_edge" if "to_edge" in table else "to_done"
                 yield Said(self.files.config_place(f"span[{place}].{key}"), "warning", text, "never-closes")

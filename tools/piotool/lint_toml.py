@@ -111,7 +111,7 @@ class Places:
         while self.at < len(self.text):
             begin = self.at
             if self.is_at("[["):
-                name = ".".join(self.path())
+                name = self.within(self.path())
                 if not self.is_at("]]"):
                     raise Lost
                 number = self.counts[name] = self.counts.get(name, -1) + 1
@@ -119,13 +119,22 @@ class Places:
                 self.keys[table] = self.point(begin)
                 self.keys.setdefault(name, self.point(begin))
             elif self.is_at("["):
-                table = ".".join(self.path())
+                table = self.within(self.path())
                 if not self.is_at("]"):
                     raise Lost
                 self.keys.setdefault(table, self.point(begin))
             else:
                 self.assignment(table)
             self.skip(True)
+
+    def within(self, parts: list[str]) -> str:
+        """The path of the table that a header names: one in an array of tables is in the last of these."""
+        *above, name = parts
+        path = ""
+        for part in above:
+            path += part
+            path += f"[{self.counts[path]}]." if path in self.counts else "."
+        return path + name
 
     def assignment(self, table: str) -> None:
         """A key and its value, in a table."""

@@ -18,7 +18,7 @@ COLUMNS = ("span", "declared", "seen", "least", "mean", "most", "clocks allowed"
 class Measured:
     """A span's measures, in clocks: each with the clock of its from-edge; the clocks that are allowed, and how many are outside.
 
-    Of a span that speaks of some pairs alone (`prompt`, `without`, `from_at`, `to_at`) all are measured, and none is outside: a capture
+    Of a span that speaks of some pairs alone (`prompt`, `without`, `assume`, `from_at`, `to_at`) all are measured, and none is outside: a capture
     doesn't say of which.
     """
 

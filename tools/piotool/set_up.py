@@ -89,7 +89,8 @@ class SetUp:
         """A span as the models take it, of its table."""
         addresses = self.addresses(table["machine"])
         named = {key: [addresses[name] for name in table.get(key, [])] for key in LABELS}
-        return {"unit": "ticks", "prompt": False} | table | named
+        assume = [one | {"after": addresses[one["after"]]} for one in table.get("assume", [])]
+        return {"unit": "ticks", "prompt": False} | table | named | ({"assume": assume} if assume else {})
 
     @property
     def spans(self) -> list[Tables]:

@@ -39,6 +39,7 @@ class Span:
     to_at: tuple[str, ...] = ()
     from_done: tuple[str, ...] = ()
     to_done: tuple[str, ...] = ()
+    assume: tuple[Tables, ...] = ()
 
     def bounds(self) -> str:
         """The declared bounds as a text, as `2..7 ticks`."""
@@ -62,7 +63,7 @@ class Span:
     @property
     def speaks_of_all(self) -> bool:
         """Whether it speaks of each pair of its edges."""
-        return not self.prompt and not self.without and not self.from_at and not self.to_at
+        return not (self.prompt or self.without or self.from_at or self.to_at or self.assume)
 
     @property
     def table(self) -> Tables:
@@ -116,10 +117,13 @@ def span_of(path: str | Path, at: str, table: Tables) -> Span:
     for key in LABELS:
         if not isinstance(table[key], list) or not all(isinstance(it, str) for it in table[key]):
             raise Fault(f"{path}: {at}.{key} has no names")
+    if not isinstance(table.get("assume", []), list) or not all(isinstance(it, dict) for it in table.get("assume", [])):
+        raise Fault(f"{path}: {at}.assume is no array of tables")
     if not isinstance(table.get("name"), str) or not isinstance(table["prompt"], bool):
         raise Fault(f"{path}: {at} has no name, or a prompt that is neither true nor false")
     keys = ("name", *NUMBERS, *WORDS, "prompt")
-    return Span(**{key: table.get(key) for key in keys}, **{key: tuple(table[key]) for key in LABELS})
+    lists = {key: tuple(table[key]) for key in LABELS} | {"assume": tuple(table.get("assume", []))}
+    return Span(**{key: table.get(key) for key in keys}, **lists)
 
 
 def span_named(path: str | Path, spans: list[Span], name: str) -> Span:
@@ -162,10 +166,14 @@ def toml_of(tables: Tables) -> str:
 
 
 def assignments(table: Tables) -> list[str]:
-    """The lines of a table: its values are numbers, texts, truths, and lists of these."""
+    """The lines of a table: its values are numbers, texts, truths, tables, and lists of these."""
     return [f"{key} = {written(value)}" for key, value in table.items()]
 
 
 def written(value: Any) -> str:
     """A value as TOML writes it."""
+    if isinstance(value, dict):
+        return "{" + ", ".join(assignments(value)) + "}"
+    if isinstance(value, list):
+        return "[" + ", ".join(map(written, value)) + "]"
     return "inf" if value == inf else json.dumps(value)

@@ -6,6 +6,9 @@ whether it opens one. The least age at a node is then the length of a shortest w
 greatest is that of a longest one: without bound at and after a loop on which a span stays open, since each instruction takes
 a tick, and else found in the order of the nodes. It proves nothing.
 
+What a span assumes narrows the edges: after the instruction of an assumption there is an edge for each number that a register may
+have there. A register that has none, since it is known to be outside, has no edge (U6).
+
 A setup has the keys of a configuration and the places of its program: start, wrap_bottom, wrap_top, side_bits, side_opt,
 side_pindirs. A span has the keys of a configuration; its labels are addresses. The pins of a block are words: level and out.
 
@@ -14,14 +17,19 @@ A pin has two *wires*, as a trace names them: `p5` is the level that pin 5 is dr
 
 import heapq
 from collections import Counter
-from dataclasses import dataclass, field
+from dataclasses import dataclass, field, replace
 from math import inf
 from typing import Any, Iterator, Optional
 
 from piotool.machine_model import Setup, period_of
 
 Span = dict[str, Any]
+Range = dict[str, Any]  # an assumption: after which address, and the ranges of x, y or both
 Pins = dict[str, int]
+
+MOST_PAIRS = 2**17  # of what may be known of X and of Y, each a number or any
+USUAL = 31  # how far a register is followed without more
+ANY = 2**32  # after every number, in the order of contexts
 
 JMP, WAIT, IN, OUT, PUSH_PULL, MOV, IRQ, SET = range(8)
 TO_PINS, TO_X, TO_Y, TO_PINDIRS, TO_PC = 0, 1, 2, 4, 5
@@ -43,8 +51,8 @@ class Context:
     to_level: int
 
     def order(self) -> tuple[int, int, int, int, int]:
-        """The place in the order of contexts; a register that isn't known comes after 31."""
-        x, y = (32 if value is None else value for value in (self.x, self.y))
+        """The place in the order of contexts; a register that isn't known comes after those that are."""
+        x, y = (ANY if value is None else value for value in (self.x, self.y))
         return self.address, x, y, self.from_level, self.to_level
 
     def __str__(self) -> str:
@@ -68,11 +76,12 @@ class Tick:
 
 @dataclass(frozen=True)
 class Course:
-    """A way through one instruction. Without a context after it no address is known."""
+    """A way through one instruction. Without a context after it no address is known, or a register is where it can't be assumed."""
 
     before: Context
     ticks: tuple[Tick, ...]
     after: Optional[Context]
+    is_unmet: bool = False
 
     @property
     def waits(self) -> bool:
@@ -134,6 +143,28 @@ def bounds_of(span: Span, setup: Setup) -> Bounds:
     if span["max"] == inf:
         return Bounds(least, max(0, least - 1), False)
     return Bounds(least, 256 * span["max"] // period)
+
+
+def range_of(one: Range, register: str) -> Optional[tuple[int, int]]:
+    """The range of a register in an assumption, or None."""
+    return tuple(one[register]) if register in one else None
+
+
+def meet_of(assume: list[Range], address: int, register: str) -> Optional[tuple[int, int]]:
+    """The least and the greatest number that all ranges of a register after an address have, or None where there is no range."""
+    ranges = [it for one in assume if one["after"] == address and (it := range_of(one, register))]
+    return (max(it[0] for it in ranges), min(it[1] for it in ranges)) if ranges else None
+
+
+def limits_of(span: Span) -> tuple[int, int]:
+    """How far X and Y are followed: up to the greatest number of their ranges, and a register with less up to 31, or as far as fits."""
+    x, y = (max((one[register][1] for one in span.get("assume", []) if register in one), default=0) for register in ("x", "y"))
+    return max(x, usual(y)), max(y, usual(x))
+
+
+def usual(other: int) -> int:
+    """How far a register is followed that needs less, where the other one is followed so far."""
+    return min(USUAL, MOST_PAIRS // (other + 2) - 2)
 
 
 def mapping(base: int, count: int) -> list[int]:
@@ -207,11 +238,14 @@ class Machine:
         self.wires = tuple(it.wire for it in self.ends)
         self.stalls, self.without = set(span["stalls"]), set(span.get("without", []))
         self.is_prompt = span.get("prompt", False)
+        self.limits, self.assume = limits_of(span), span.get("assume", [])
+        self.meets = {(one["after"], it): meet_of(self.assume, one["after"], it) for one in self.assume for it in ("x", "y")}
+        self.told: dict[Any, tuple[tuple[Tick, ...], tuple[int, int]]] = {}  # the ticks of courses, and the levels after them
         self.paths: dict[int, tuple[list[list[Wires]], int]] = {}
 
     def start(self, pins: Pins) -> Context:
         """The first context, from the pins at the start."""
-        known = [self.setup[name] if self.setup[name] < 32 else None for name in ("x", "y")]
+        known = [self.setup[name] if self.setup[name] <= limit else None for name, limit in zip(("x", "y"), self.limits)]
         return Context(self.setup["start"], *known, *(bit_of(pins, wire) for wire in self.wires))
 
     def excuses(self, address: int, place: int, is_late: bool) -> bool:
@@ -225,7 +259,27 @@ class Machine:
         paths, delay = self.paths_of(word)
         ways_on = self.after(word, context)
         courses = [self.course(context, path, delay, *way_on) for path in paths for way_on in ways_on]
-        return list(dict.fromkeys(courses))
+        found = [narrow for course in courses for narrow in self.narrowed(course)]
+        return found if len(courses) == 1 else list(dict.fromkeys(found))
+
+    def narrowed(self, course: Course) -> list[Course]:
+        """A course for each thing that may be known of X and Y after it, by what is assumed there; or one that can't end."""
+        after = course.after
+        if after is None:
+            return [course]
+        x, y = (self.known_after(course.before.address, *it) for it in zip(("x", "y"), (after.x, after.y), self.limits))
+        if (x, y) == ([after.x], [after.y]):
+            return [course]
+        afters = [Context(after.address, one, other, after.from_level, after.to_level) for one in x for other in y]
+        return [Course(course.before, course.ticks, it) for it in afters] or [replace(course, after=None, is_unmet=True)]
+
+    def known_after(self, address: int, register: str, known: Optional[int], limit: int) -> list[Optional[int]]:
+        """All that may be known of a register after the instruction at an address, which leaves this."""
+        meet = self.meets.get((address, register))
+        if meet is None:
+            return [known if known is not None and known <= limit else None]
+        least, most = meet
+        return [one for one in ([known] if known is not None else range(least, most + 1)) if least <= one <= most]
 
     def paths_of(self, word: int) -> tuple[list[list[Wires]], int]:
         """What a word may write in its first tick and, where it may wait, in a late one; and the ticks of its delay."""
@@ -242,6 +296,14 @@ class Machine:
 
         The instruction finishes in the last tick that isn't one of the delay.
         """
+        key = context.address, context.from_level, context.to_level, id(writes)
+        if key not in self.told:
+            self.told[key] = self.ticks_of(context, writes, delay)
+        ticks, levels = self.told[key]
+        return Course(context, ticks, None if address is None else Context(address, x, y, *levels))
+
+    def ticks_of(self, context: Context, writes: list[Wires], delay: int) -> tuple[tuple[Tick, ...], tuple[int, int]]:
+        """The ticks of a course, and the levels after it, which don't depend on X and Y."""
         at, levels, ticks = context.address, (context.from_level, context.to_level), []
         for place, write in enumerate(writes):
             after = tuple(level if wire is None else write.get(wire, level) for wire, level in zip(self.wires, levels))
@@ -250,7 +312,7 @@ class Machine:
             ticks.append(Tick(after, begins, ends, is_late, self.excuses(at, place, is_late)))
             levels = after
         ticks += [Tick(levels, False, False)] * delay
-        return Course(context, tuple(ticks), None if address is None else Context(address, x, y, *levels))
+        return tuple(ticks), levels
 
     def has(self, end: End, address: int, finishes: bool, old: int, new: int) -> bool:
         """Whether a tick of the instruction at an address, which may finish it, has an event: its wire has these bits around it."""
@@ -415,9 +477,9 @@ class Graph:
 
     def causes(self, course: Course) -> list[tuple[str, int]]:
         """The causes that a course has from the ages at its context, each with the place of its tick."""
-        if course.after is None:
+        if course.after is None and not course.is_unmet:
             return [("U4", 0)]
-        found = []
+        found = [("U6", len(course.ticks) - 1)] if course.is_unmet else []
         for place, (tick, ages) in enumerate(zip(course.ticks, self.ages_within(course))):
             if ages and ages[1] > self.bounds.most and self.bounds.is_bounded:
                 found.append(("U1", place))
@@ -494,7 +556,7 @@ def says_closes(span: Span) -> bool:
     """Whether the line of a proved span says whether it closes, by what the span's keys say."""
     has_direction = any(wire[0] == "d" for wire in wires_of(span))
     says_labels = any(span.get(key) for key in ("without", *EVENTS))
-    return bool(span["max"] == inf or has_direction or span.get("prompt") or says_labels)
+    return bool(span["max"] == inf or has_direction or span.get("prompt") or says_labels or span.get("assume"))
 
 
 def verdict(memory: list[int], setups: dict[int, Setup], pins: Pins, span: Span) -> str:
@@ -506,8 +568,8 @@ def verdict(memory: list[int], setups: dict[int, Setup], pins: Pins, span: Span)
     if bad := graph.first_bad():
         return f"unproved at {bad[0]}: {bad[1]}"
     closes = f" closes {'yes' if graph.closes() else 'no'}" if says_closes(span) else ""
-    prompt = " under prompt" if span.get("prompt") else ""
-    return f"proved opens {'yes' if graph.opens() else 'no'}{closes}{prompt}"
+    premises = ", ".join(name for name in ("prompt", "assume") if span.get(name))
+    return f"proved opens {'yes' if graph.opens() else 'no'}{closes}{f' under {premises}' if premises else ''}"
 
 
 def table(memory: list[int], setups: dict[int, Setup], pins: Pins, span: Span) -> str:

@@ -4,7 +4,7 @@ A run is the samples of clocks in which something may have changed. Clocks in wh
 on are leapt over.
 """
 
-from bisect import bisect_right
+from bisect import bisect_left, bisect_right
 from dataclasses import dataclass, field
 from math import inf
 from time import process_time
@@ -36,10 +36,13 @@ class Stand:
 
 @dataclass(frozen=True)
 class Act:
-    """A tick of an instruction in memory, its first one or a late one: its address, and whether it finishes."""
+    """A tick of an instruction in memory, its first one or a late one: its address, whether it finishes, and X and Y after it."""
 
     address: int
     finishes: bool
+    x: int = 0
+    y: int = 0
+    is_rested: bool = True  # no delay is left after it
 
 
 @dataclass(frozen=True)
@@ -90,10 +93,37 @@ class Run:
                 found += [clock] if before == wanted else []
         return found
 
+    def spoken(self, span: dict[str, Any]) -> int:
+        """Up to which clock a span speaks of the run: the first one in which its assumptions don't hold, or the run's end.
+
+        After an instruction that leaves a register outside its range that is the last tick of its delay.
+        """
+        acts, assumed = self.acts.get(span["machine"], {}), span.get("assume", [])
+        if {it["after"] for it in assumed} - self.watched.get(span["machine"], set()):
+            raise ValueError("a run that wasn't asked for this span")
+        misses = [clock for clock, act in sorted(acts.items()) if act.finishes and not all(is_met(it, act) for it in assumed)]
+        return min([self.clocks, *(clock if acts[clock].is_rested else self.rested(span["machine"], clock) for clock in misses)])
+
+    def rested(self, machine: int, clock: int) -> int:
+        """The clock in which the delay of an instruction is over that finished in this one, or the run's end."""
+        stands = self.stands.get(machine, [])
+        place = bisect_left([it.last for it in stands], clock + 1)
+        return max(stands[place].first, clock + 1) - 1 if place < len(stands) else self.clocks
+
     def excused(self, span: dict[str, Any]) -> "Excused":
         """The clocks in which a span is excused."""
         rows = self.stands.get(span["machine"], []) if span.get("prompt") or span.get("without") else []
         return Excused([it for it in rows if it.excuses(span)])
+
+
+def is_met(one: dict[str, Any], act: Act) -> bool:
+    """Whether an instruction that finished left X and Y as an assumption has them."""
+    return one["after"] != act.address or all(least <= value <= most for value, (least, most) in asked_of(one, act))
+
+
+def asked_of(one: dict[str, Any], act: Act) -> list[tuple[int, tuple[int, int]]]:
+    """The registers that an assumption has a range for, each with it."""
+    return [(value, (one[name][0], one[name][1])) for name, value in (("x", act.x), ("y", act.y)) if name in one]
 
 
 class Excused:
@@ -164,7 +194,8 @@ def run_of(
         samples.append((clock, stepped.step(clock, before, now)))
         for number, address in stood:
             if (log := stepped.ticks[number]).lasts and log.lasts[-1] == clock:
-                found.acts[number][clock] = Act(address, not stepped.machines[number].begun)
+                machine = stepped.machines[number]
+                found.acts[number][clock] = Act(address, not machine.begun, machine.x, machine.y, not machine.delay)
         after = int(min(clocks, next_clock(stepped, own, clock)))
         for number, machine in stepped.machines.items() if after > clock + 1 else ():
             note_stand(found.stands[number], machine, stepped.ticks[number], clock + 1, after - 1)
@@ -173,12 +204,16 @@ def run_of(
         before = last if after == clock + 1 else now if after == clock + 2 else settled
         last = now if after == clock + 1 else settled
         clock = after if marks else turns.leap(after, (before, last), samples[-1][1], clocks)
+    for number, machine in stepped.machines.items() if found.is_whole else ():
+        note_stand(found.stands[number], machine, stepped.ticks[number], clocks, clocks)
     return found
 
 
 def ended_in(spans: Sequence[dict[str, Any]], number: int) -> set[int]:
-    """The addresses of a machine whose instructions' ends are events of spans."""
-    return {at for it in spans if it["machine"] == number for key in ("from_done", "to_done") for at in it.get(key, [])}
+    """The addresses of a machine whose instructions' ends are events of spans, or after which they assume something."""
+    own = [it for it in spans if it["machine"] == number]
+    ends = {at for it in own for key in ("from_done", "to_done") for at in it.get(key, [])}
+    return ends | {one["after"] for it in own for one in it.get("assume", [])}
 
 
 def note_stand(stands: list[Stand], machine: Machine, log: TickLog, first: int, last: int) -> None:
@@ -275,15 +310,17 @@ def rest(block: Block, machine: Machine, log: TickLog, first: int, after: int) -
 def broken_at(block: SetUp, span: dict[str, Any], run: Run, lines: list[Line]) -> Optional[Broken]:
     """How a run breaks a span first, or none. Lines that disable or restart the machine excuse a span in clocks.
 
-    Of a from-edge after which the span is excused, nothing is said (`prompt`, `without`).
+    Of a from-edge after which the span is excused, nothing is said (`prompt`, `without`), nor of anything once its assumptions don't
+    hold.
     """
-    begins, ends = (run.events(block.pins, span, it) for it in ("from", "to"))
+    clocks = run.spoken(span)
+    begins, ends = ([clock for clock in run.events(block.pins, span, it) if clock < clocks] for it in ("from", "to"))
     excused = run.excused(span)
     disturbed = [clock for clock, word, numbers in lines if word in ("disable", "restart") and numbers[0] == span["machine"]]
     for begin in begins:
         place = bisect_right(ends, begin)
         end = ends[place] if place < len(ends) else None
-        last = run.clocks - 1 if end is None else end
+        last = clocks - 1 if end is None else end
         if span["unit"] == "clocks" and any(begin < clock <= last for clock in disturbed) or excused.within(begin, last):
             continue
         count, wait = counted(span, run.ticks[span["machine"]].within(begin, last))
@@ -295,13 +332,14 @@ def broken_at(block: SetUp, span: dict[str, Any], run: Run, lines: list[Line]) -
 
 def open_at(block: SetUp, span: dict[str, Any], run: Run) -> Optional[Broken]:
     """The oldest from-edge that no to-edge has ended at the end of a run, and of which something is said; with its count, or none."""
-    begins, ends = (run.events(block.pins, span, it) for it in ("from", "to"))
+    last = run.spoken(span) - 1
+    begins, ends = ([clock for clock in run.events(block.pins, span, it) if clock <= last] for it in ("from", "to"))
     open_ones, excused = (it for it in begins if not ends or it >= ends[-1]), run.excused(span)
-    begin = next((it for it in open_ones if not excused.within(it, run.clocks - 1)), None)
+    begin = next((it for it in open_ones if not excused.within(it, last)), None)
     if begin is None:
         return None
-    count, wait = counted(span, run.ticks[span["machine"]].within(begin, run.clocks - 1))
-    return Broken(begin, None, run.clocks - 1, run.clocks - 1 - begin if span["unit"] == "clocks" else count, wait)
+    count, wait = counted(span, run.ticks[span["machine"]].within(begin, last))
+    return Broken(begin, None, last, last - begin if span["unit"] == "clocks" else count, wait)
 
 
 def counted(span: dict[str, Any], rows: Iterator[Any]) -> tuple[int, Optional[tuple[int, int]]]:

@@ -8,7 +8,7 @@ from typing import Any, Optional
 from piotool.breaking import Answer, Shown
 from piotool.set_up import SetUp
 from piotool.setups import quoted
-from piotool.span_model import wire_of
+from piotool.span_model import TO_X, TO_Y, Context, Machine, meet_of, wire_of
 
 ROOM = 30  # clocks that a picture shows before the from-edge and after the end
 # How each edge is written: it does so, it has done so, it may do so.
@@ -48,10 +48,11 @@ def line_of(block: SetUp, span: dict[str, Any], answer: Answer, seconds: float, 
         return f"span {name} broken {how}: {broken_text(block, span, answer.shown)}"
     if answer.unmoved is not None:
         return f"span {name}: no run breaks it: {answer.unmoved}; not a proof"
+    within = " within what it assumes" if span.get("assume") else ""
     if answer.is_done:
         visited = f"({answer.states} state{'s' * (answer.states != 1)}, all visited)"
-        return f"span {name}: no run breaks it beside a stimulus without enable, disable and restart {visited}; not a proof"
-    return f"span {name}: no run found ({seconds:g} s, {answer.states} states, up to clock {answer.last})"
+        return f"span {name}: no run breaks it{within} beside a stimulus without enable, disable and restart {visited}; not a proof"
+    return f"span {name}: no run found{within} ({seconds:g} s, {answer.states} states, up to clock {answer.last})"
 
 
 def broken_text(block: SetUp, span: dict[str, Any], shown: Shown) -> str:
@@ -71,6 +72,31 @@ def broken_text(block: SetUp, span: dict[str, Any], shown: Shown) -> str:
         return f"{begins}, {second} {ends} at clock {broken.end}: {count}"
     same = f" and hasn't {ended}" if first == second else f", and {second} hasn't {ended}"
     return f"{begins}{same} at clock {broken.last}: {count}"
+
+
+def asked_text(machine: Machine, address: int) -> str:
+    """What a span assumes after the instruction at an address, as `x in 0..255`; nothing where it assumes nothing there."""
+    return " and ".join(in_range(name, meet) for name in ("x", "y") if (meet := meet_of(machine.assume, address, name)))
+
+
+def in_range(name: str, meet: tuple[int, int]) -> str:
+    """A register with the range in which it is assumed to be."""
+    least, most = meet
+    return f"{name} in {least}..{most}" if least < most else f"{name} = {least}" if least == most else f"{name} in ranges without a number in common"
+
+
+def unmet_text(machine: Machine, context: Context) -> str:
+    """Why what is assumed after the instruction at a context can't hold there."""
+    word, address = machine.memory[context.address], context.address
+    for name, which in (("x", TO_X), ("y", TO_Y)):
+        meet, known = meet_of(machine.assume, address, name), machine.register_after(word, which, context)
+        if meet is None:
+            continue
+        if meet[0] > meet[1]:
+            return f"the ranges of {name} have no number in common"
+        if known is not None and not meet[0] <= known <= meet[1]:
+            return f"{name} is {known} after it, and assumed is {in_range(name, meet)}"
+    return ""
 
 
 def place_of(block: SetUp, machine: int, addresses: tuple[int, ...]) -> str:

@@ -15,7 +15,7 @@ File = Union[str, PathLike[str], Sequence[str]]
 TOLD = re.compile(r"piotool: (source|config|stimulus) (?:line (\d+)|(\S+)): (\w+)\b.*")
 NO_FILE = re.compile(r"piotool: (?:shelf|long) (source|config|stimulus)\b.*|piotool: (source|config|stimulus): .*")
 SPAN = re.compile(r"piotool: (span .*)")
-LINE = re.compile(r"span (\S+) (?:proved opens (yes|no)(?: closes (?:yes|no))?(?: under prompt)?|unproved (?:at (\d+) .*|by machine (\d+)): (U\d))")
+LINE = re.compile(r"span (\S+) (?:proved opens (yes|no)(?: closes (?:yes|no))?(?: under (?:prompt|assume|prompt, assume))?|unproved (?:at (\d+) .*|by machine (\d+)): (U\d))")
 NAMES = {"source": "source.pio", "config": "config.toml", "stimulus": "stimulus.stim"}
 TX_LEVEL, RX_LEVEL, WORD = "t", "r", "w"
 

@@ -33,8 +33,9 @@ class Way:
 
 def way_to(graph: Graph, context: Context, cause: str) -> Way:
     """The shortest way to a bad context, which has this cause."""
-    if cause == "U4":
-        return Way(cause, path_from(graph, graph.start, context, lambda course: True) + graph.rows[context][:1], 0)
+    if cause in ("U4", "U6"):
+        last = next(course for course in graph.rows[context] if course.after is None)
+        return Way(cause, [*path_from(graph, graph.start, context, lambda course: True), last], len(last.ticks) - 1)
     return min(ways_to(graph, context, cause), key=Way.length)
 
 

@@ -5,7 +5,7 @@
 mod loads;
 
 use loads::{LOADS, TimedProgram, machine_of, memory_of};
-use pin_matrix::{Addresses, PinSignal, Setup, Span, SpanUnit, Spans};
+use pin_matrix::{Addresses, Assumptions, PinSignal, Setup, Span, SpanUnit, Spans};
 use pio_encode::Name;
 use span_bounds::{Ages, Cause, Context, Derived, Table, derive};
 use std::alloc::{AllocError, Global};
@@ -68,6 +68,7 @@ fn found_of(alloc: Global, load: &TimedProgram) -> Option<Derived> {
         without: Addresses::empty(alloc),
         from_at: Addresses::empty(alloc),
         to_at: Addresses::empty(alloc),
+        assume: Assumptions::empty(alloc),
     };
     let mut setup = Setup::of(memory_of(load), Spans::empty(alloc));
     setup.place(machine_of(load));
@@ -105,14 +106,14 @@ fn size_of(table: &Table) -> (u32, u32) {
 }
 
 /// The same of the rows of an address, X and Y.
-fn size_at(table: &Table, address: u8, x: Option<u8>, y: Option<u8>) -> (u32, u32) {
+fn size_at(table: &Table, address: u8, x: Option<u16>, y: Option<u16>) -> (u32, u32) {
     let mut rows: u32 = 0;
     let mut most: u32 = 0;
     for levels in 0..4u8 {
         let context = Context {
             address: address.min(31),
-            x: x.map(|n| n.min(31)),
-            y: y.map(|n| n.min(31)),
+            x,
+            y,
             from: levels / 2 == 1,
             to: levels % 2 == 1,
         };
@@ -129,6 +130,6 @@ fn size_at(table: &Table, address: u8, x: Option<u8>, y: Option<u8>) -> (u32, u3
 }
 
 /// A number below 32, and any after 31.
-fn known(n: u8) -> Option<u8> {
-    if n < 32 { Some(n) } else { None }
+fn known(n: u8) -> Option<u16> {
+    if n < 32 { Some(u16::from(n)) } else { None }
 }

@@ -44,7 +44,7 @@ pub off_section : {X : Type 0} (section : Section) (r : Result X ConfigRefusal) 
 off_section section (Ok y) x e = e
 off_section section (Err r) x e = cc
 
-known_read : {X : Type 0} (section : Section) (r : Result X ConfigRefusal) (x : X) (path : List ℕ) (known : Bool) → cond known (in_section section r) (Err (record { key = path; kind = UnknownKey })) ≡ Ok x → r ≡ Ok x
+pub known_read : {X : Type 0} (section : Section) (r : Result X ConfigRefusal) (x : X) (path : List ℕ) (known : Bool) → cond known (in_section section r) (Err (record { key = path; kind = UnknownKey })) ≡ Ok x → r ≡ Ok x
 known_read section r x path true e = off_section section r x e
 known_read section r x path false e = cc
 
@@ -53,3 +53,8 @@ pub read_table : {X : Type 0} (name : List ℕ) (o : Option Members) (section : 
     → element_of name o (λ t. section_at section names t (read t)) ≡ Ok x → (t : Members) × (read t ≡ Ok x)
 read_table name None section names read x e = cc
 read_table name (Some t) section names read x e = (t, known_read section (read t) x _ (are_known names t) e)
+
+-- the table of an element that is read
+pub element_read : {X : Type 0} (name : List ℕ) (o : Option Members) (read : Members → Result X ConfigRefusal) (x : X) → element_of name o read ≡ Ok x → (t : Members) × (read t ≡ Ok x)
+element_read name None read x e = cc
+element_read name (Some t) read x e = (t, e)

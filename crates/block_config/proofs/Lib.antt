@@ -21,3 +21,4 @@ pub mod Said
 pub mod Unclipped
 pub mod FewSpans
 pub mod Absent
+pub mod Assumed

@@ -5,6 +5,7 @@ use Rattle.std.specs.Option.{ForSome}
 use Rattle.pin_matrix.proofs.Greatest.{of_some, of_none}
 use Rattle.std.proofs.lemmas.Bool.{ltb-false, leb-true}
 use Rattle.toml.specs.Data.{Data, Items, Members, as_array, as_float, as_integer, as_str, as_table, get_member}
+use Rattle.pin_matrix.specs.declared.assume.Assumption.{Assumption}
 use Rattle.pin_matrix.specs.declared.span.SpanUnit.{SpanUnit}
 use Rattle.pin_matrix.specs.declared.span.SpanUnit.TheVariants.{Ticks, Clocks}
 use Rattle.pin_matrix.specs.Spans.{is_in_ticks, is_span_name}
@@ -16,11 +17,12 @@ use Rattle.block_config.specs.declared.fault.ConfigKind.{ConfigKind}
 use Rattle.block_config.specs.declared.fault.ConfigKind.TheVariants.{Many, WrongType, Range}
 use Rattle.block_config.specs.declared.path.Section.TheVariants.{Span}
 use Rattle.block_config.specs.Programs.{Loaded}
-use Rattle.block_config.specs.Spans.{span_names, required, name_of, name_at, configured, machine_at, EventNames, from_names, to_names, pin_of, pin_at, edge_at, SpanEnds, ends_at, unit_at, least_at, is_endless, most_of, most_at, Bounds, is_under, ordered, bounds_at, load_of_span, label_of_element, label_addresses, labels_in, labels_of, most_stalls, stalls_at, prompt_key, without_at, Exempt, exempt_at, Events, events_at, SpanValues, values_at, span_keys_of, span_of_table, span_in, all_spans}
-use Rattle.block_config.specs.Tables.{and_then, has_key, number_at, flag_at}
+use Rattle.block_config.specs.Spans.{span_names, required, name_of, name_at, configured, machine_at, EventNames, from_names, to_names, pin_of, pin_at, edge_at, SpanEnds, ends_at, unit_at, least_at, is_endless, most_of, most_at, Bounds, is_under, ordered, bounds_at, load_of_span, label_of_element, label_addresses, labels_in, labels_of, most_stalls, stalls_at, prompt_key, without_at, Exempt, exempt_at, Events, events_at, SpanValues, values_at, span_keys_of, named_values, span_at, span_in, all_spans}
+use Rattle.block_config.specs.Assume.{assume_at}
+use Rattle.block_config.specs.Tables.{and_then, has_key, number_at, flag_at, section_at, are_known}
 use Rattle.block_config.specs.Values.{map_ok, number_in, text_of}
 use Rattle.setup_keys.specs.InRange.{IsSpan}
-use Rattle.block_config.proofs.Gathered.{gather_keeps, gathered_count, read_table}
+use Rattle.block_config.proofs.Gathered.{gather_keeps, gathered_count, known_read, element_read}
 use Rattle.block_config.proofs.Ranges.{goes_on, in_read, off_key, ok_same, number_within}
 
 record AreEnds (e : SpanEnds) : Type 0 where
@@ -158,8 +160,8 @@ exempt_in_ticks unit load t x e =
     subst (λ (y : Exempt). AreInTicks unit (length y.stalls)) (ok_same (record { stalls = stalls.value; prompt = prompt.value; without = without.value }) x without.rest)
     (few_in_ticks unit (length stalls.value) (value_few 0 (most_stalls unit) load (get_member (codes "stalls") t) stalls.value (off_key (codes "stalls") _ stalls.value stalls.found)))
 
-parts_in_range : (name : List ℕ) (v : SpanValues) → is_span_name name ≡ true → AreEnds v.ends → AreOrdered v.bounds → AreInTicks v.bounds.unit (length v.exempt.stalls) → IsSpan (span_keys_of name v)
-parts_in_range name v n e b s = record {
+parts_in_range : (name : List ℕ) (v : SpanValues) (assume : List Assumption) → is_span_name name ≡ true → AreEnds v.ends → AreOrdered v.bounds → AreInTicks v.bounds.unit (length v.exempt.stalls) → IsSpan (span_keys_of name v assume)
+parts_in_range name v assume n e b s = record {
   named = n;
   machine_in_block = e.machine;
   from_pin_is_a_pin = e.from_pin;
@@ -194,16 +196,24 @@ values_bounded machines loads t v (Ok ends) (Ok bounds) a o e =
 values_bounded machines loads t v (Err r) bounds a o e = cc
 values_bounded machines loads t v (Ok ends) (Err r) a o e = cc
 
-table_in_range : (machines : List (Option MachineKeys)) (loads : List Loaded) (t : Members) (s : SpanKeys) → span_of_table machines loads t ≡ Ok s → IsSpan s
-table_in_range machines loads t s e =
-    let name = goes_on (name_at t) (λ name. and_then (values_at machines loads t) (λ values. Ok (span_keys_of name values))) s e in
-    let values = goes_on (values_at machines loads t) (λ values. Ok (span_keys_of name.value values)) s name.rest in
+-- the name of a table and what it says after it are in range
+named_in_range : (machines : List (Option MachineKeys)) (loads : List Loaded) (t : Members) (v : List ℕ × SpanValues) → named_values machines loads t ≡ Ok v → (is_span_name v.0 ≡ true) × AreValues v.1
+named_in_range machines loads t v e =
+    let name = goes_on (name_at t) (λ name. and_then (values_at machines loads t) (λ values. Ok (name, values))) v e in
+    let values = goes_on (values_at machines loads t) (λ values. Ok (name.value, values)) v name.rest in
     let are = values_bounded machines loads t values.value (ends_at machines t) (bounds_at t) refl refl values.found in
-    subst IsSpan (ok_same (span_keys_of name.value values.value) s values.rest)
-    (parts_in_range name.value values.value (named t name.value name.found) are.ends are.bounds are.stalls)
+    subst (λ (w : List ℕ × SpanValues). (is_span_name w.0 ≡ true) × AreValues w.1) (ok_same (name.value, values.value) v values.rest) (named t name.value name.found, are)
+
+table_in_range : (place : ℕ) (machines : List (Option MachineKeys)) (loads : List Loaded) (t : Members) (s : SpanKeys) → span_at place machines loads t ≡ Ok s → IsSpan s
+table_in_range place machines loads t s e =
+    let v = goes_on (section_at (Span place) span_names t (named_values machines loads t)) (λ v. and_then (assume_at place (load_of_span machines loads v.1.ends.machine) t) (λ assume. Ok (span_keys_of v.0 v.1 assume))) s e in
+    let are = named_in_range machines loads t v.value (known_read (Span place) (named_values machines loads t) v.value _ (are_known span_names t) v.found) in
+    let assume = goes_on (assume_at place (load_of_span machines loads v.value.1.ends.machine) t) (λ assume. Ok (span_keys_of v.value.0 v.value.1 assume)) s v.rest in
+    subst IsSpan (ok_same (span_keys_of v.value.0 v.value.1 assume.value) s assume.rest)
+    (parts_in_range v.value.0 v.value.1 assume.value are.0 are.1.ends are.1.bounds are.1.stalls)
 
 pub spans_in_range : (machines : List (Option MachineKeys)) (loads : List Loaded) (tables : Items) (spans : List SpanKeys) → all_spans machines loads tables ≡ Ok spans → AllByRecursion IsSpan spans
 spans_in_range machines loads tables spans e =
     gather_keeps IsSpan (span_in machines loads) (λ place front d s _ read.
-    let table = read_table (codes "span") (as_table d) (Span place) span_names (span_of_table machines loads) s read in
-    table_in_range machines loads table.0 s table.1) tables 0 [] spans tt e
+    let table = element_read (codes "span") (as_table d) (λ t. span_at place machines loads t) s read in
+    table_in_range place machines loads table.0 s table.1) tables 0 [] spans tt e

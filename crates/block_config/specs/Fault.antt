@@ -7,7 +7,7 @@ use Rattle.std.specs.Prelude.{ℕ, ◌++◌, List, codes, decimal}
 use Rattle.block_config.specs.declared.fault.ConfigKind.{ConfigKind}
 use Rattle.block_config.specs.declared.fault.ConfigKind.TheVariants.{NotToml, UnknownKey, WrongType, Range, NoProgram, NoLabel, Overlap, DoesNotFit, MachineTwice, BothJoins, Divider, Many, Missing, Excluded}
 use Rattle.block_config.specs.declared.path.Section.{Section}
-use Rattle.block_config.specs.declared.path.Section.TheVariants.{Load, Machine, Pins, Span}
+use Rattle.block_config.specs.declared.path.Section.TheVariants.{Load, Machine, Pins, Span, Assume}
 
 -- the code of a kind
 abbrev pub code_of : ConfigKind → List ℕ
@@ -37,6 +37,7 @@ section_path (Load place) = codes "load[" ++ decimal place ++ codes "]"
 section_path (Machine place) = codes "machine[" ++ decimal place ++ codes "]"
 section_path Pins = codes "pins"
 section_path (Span place) = codes "span[" ++ decimal place ++ codes "]"
+section_path (Assume span place) = codes "span[" ++ decimal span ++ codes "].assume[" ++ decimal place ++ codes "]"
 
 -- the path of a key: its table's, a dot and its name
 abbrev pub key_path : Section → List ℕ → List ℕ

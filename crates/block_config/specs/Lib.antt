@@ -12,6 +12,7 @@ pub mod Apart
 pub mod Machines
 pub mod MachineView
 pub mod Pins
+pub mod Assume
 pub mod Spans
 pub mod SpanView
 pub mod SetupOf

@@ -12,21 +12,23 @@ use Rattle.std.specs.Float.{float_is_infinite, is_sign_negative}
 use Rattle.std.specs.List.{find}
 use Rattle.std.specs.Str.{bytes_eq}
 use Rattle.toml.specs.Data.{Data, Items, Members, get_member, as_array, as_float, as_str, as_table}
+use Rattle.pin_matrix.specs.declared.assume.Assumption.{Assumption}
 use Rattle.pin_matrix.specs.declared.span.PinSignal.TheVariants.{Level, Direction}
 use Rattle.pin_matrix.specs.declared.span.SpanUnit.{SpanUnit}
 use Rattle.pin_matrix.specs.declared.span.SpanUnit.TheVariants.{Ticks, Clocks}
 use Rattle.pin_matrix.specs.Spans.{is_span_name}
 use Rattle.block_config.specs.declared.fault.ConfigKind.{ConfigKind}
-use Rattle.block_config.specs.declared.fault.ConfigKind.TheVariants.{Missing, Range, WrongType, NoProgram, NoLabel, Many, Excluded}
+use Rattle.block_config.specs.declared.fault.ConfigKind.TheVariants.{Missing, Range, WrongType, NoProgram, Many, Excluded}
 use Rattle.block_config.specs.declared.edges.Edge.{Edge}
 use Rattle.block_config.specs.declared.path.Section.TheVariants.{Span}
 use Rattle.block_config.specs.Answer.{ConfigRefusal, refused}
 use Rattle.block_config.specs.Arrays.{count_items, all_items, gather}
 use Rattle.setup_keys.specs.Block.{MachineKeys, SpanKeys}
 use Rattle.block_config.specs.Keys.{Numbered, Flagged}
+use Rattle.block_config.specs.Assume.{assume_at, label_in}
 use Rattle.block_config.specs.Loads.{covers}
-use Rattle.block_config.specs.Machines.{flag, moved_place}
-use Rattle.block_config.specs.Programs.{Loaded, label_of}
+use Rattle.block_config.specs.Machines.{flag}
+use Rattle.block_config.specs.Programs.{Loaded}
 use Rattle.block_config.specs.Tables.{and_then, on_key, has_key, number_at, flag_at, section_at, element_of}
 use Rattle.block_config.specs.Values.{map_ok, number_in, text_of}
 
@@ -35,7 +37,7 @@ abbrev pub span_names : List (List ℕ)
 span_names =
     codes "name" ∷ codes "machine" ∷ codes "from_pin" ∷ codes "to_pin" ∷ codes "from_edge" ∷ codes "to_edge" ∷ codes "unit"
     ∷ codes "min" ∷ codes "max" ∷ codes "stalls" ∷ codes "prompt" ∷ codes "without"
-    ∷ codes "from_at" ∷ codes "to_at" ∷ codes "from_done" ∷ codes "to_done" ∷ []
+    ∷ codes "from_at" ∷ codes "to_at" ∷ codes "from_done" ∷ codes "to_done" ∷ codes "assume" ∷ []
 
 -- a number that is required
 abbrev pub required : List ℕ → (high : ℕ) → Numbered
@@ -175,11 +177,6 @@ abbrev pub load_of_machine : List Loaded → Option MachineKeys → Option Loade
 load_of_machine loads None = None
 load_of_machine loads (Some m) = find (λ l. covers l m.start) loads
 
--- the address of a label of a machine's program
-abbrev pub label_in : Option Loaded → List ℕ → Result ℕ ConfigKind
-label_in None name = Err NoLabel
-label_in (Some l) name = moved_place l.address (label_of l.program name)
-
 -- the address of an element that names a label
 abbrev pub label_of_element : Option Loaded → Option (List ℕ) → Result ℕ ConfigKind
 label_of_element load None = Err WrongType
@@ -285,8 +282,8 @@ values_at machines loads t =
     Ok (record { ends = ends; bounds = bounds; exempt = exempt; events = events })))))
 
 -- a span of its parts
-abbrev pub span_keys_of : List ℕ → SpanValues → SpanKeys
-span_keys_of name v = record {
+abbrev pub span_keys_of : List ℕ → SpanValues → List Assumption → SpanKeys
+span_keys_of name v assume = record {
   name = name;
   machine = v.ends.machine;
   from_pin = v.ends.from_pin;
@@ -303,16 +300,23 @@ span_keys_of name v = record {
   without = v.exempt.without;
   from_at = v.events.from_at;
   to_at = v.events.to_at;
+  assume = assume;
 }
 
--- the span of a table
-abbrev pub span_of_table : List (Option MachineKeys) → List Loaded → Members → Result SpanKeys ConfigRefusal
-span_of_table machines loads t = and_then (name_at t) (λ name. and_then (values_at machines loads t) (λ values. Ok (span_keys_of name values)))
+-- what a table says but for its assumptions
+abbrev pub named_values : List (Option MachineKeys) → List Loaded → Members → Result (List ℕ × SpanValues) ConfigRefusal
+named_values machines loads t = and_then (name_at t) (λ name. and_then (values_at machines loads t) (λ values. Ok (name, values)))
+
+-- the span of the table at a place: what it assumes comes last
+abbrev pub span_at : ℕ → List (Option MachineKeys) → List Loaded → Members → Result SpanKeys ConfigRefusal
+span_at place machines loads t =
+    and_then (section_at (Span place) span_names t (named_values machines loads t))
+    (λ v. and_then (assume_at place (load_of_span machines loads v.1.ends.machine) t) (λ assume. Ok (span_keys_of v.0 v.1 assume)))
 
 -- the span of the table at a place
 abbrev pub span_in : List (Option MachineKeys) → List Loaded → ℕ → List SpanKeys → Data → Result SpanKeys ConfigRefusal
 span_in machines loads place spans d =
-    element_of (codes "span") (as_table d) (λ t. section_at (Span place) span_names t (span_of_table machines loads t))
+    element_of (codes "span") (as_table d) (λ t. span_at place machines loads t)
 
 -- the spans of all tables
 abbrev pub all_spans : List (Option MachineKeys) → List Loaded → Items → Result (List SpanKeys) ConfigRefusal

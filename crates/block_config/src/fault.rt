@@ -17,7 +17,7 @@ pub enum ConfigKind {
     /// `C3`: a value of another type, or an array with an element of another type.
     WrongType,
     /// `C4`: a value outside its range, an unknown word, a name of another form, bounds that cross, labels of which there
-    /// are too few or may be none, or a program that is loaded already.
+    /// are too few or may be none, ranges of too many pairs, or a program that is loaded already.
     Range,
     /// `C5`: no such program, or none that is loaded; a machine that isn't configured.
     NoProgram,
@@ -33,7 +33,7 @@ pub enum ConfigKind {
     BothJoins,
     /// `C11`: a fraction with a divider of 0, which means 65,536.
     Divider,
-    /// `C12`: more than 64 spans, or more than 16 labels of a key.
+    /// `C12`: more than 64 spans, or more than 16 labels or tables of a key.
     Many,
     /// `C13`: the key is required.
     Missing,

@@ -347,11 +347,19 @@ pub const FROM_DONE: &str = "from_done";
 
 pub const TO_DONE: &str = "to_done";
 
+pub const ASSUME: &str = "assume";
+
 /// All keys of a span.
-pub const SPAN_KEYS: [&str; 16] = [
+pub const SPAN_KEYS: [&str; 17] = [
     NAME, MACHINE, FROM_PIN, TO_PIN, FROM_EDGE, TO_EDGE, UNIT, MIN, MAX, STALLS, PROMPT, WITHOUT,
-    FROM_AT, TO_AT, FROM_DONE, TO_DONE,
+    FROM_AT, TO_AT, FROM_DONE, TO_DONE, ASSUME,
 ];
+
+// An assumption of a span, whose registers have the keys that the section of machines has.
+pub const AFTER: &str = "after";
+
+/// All keys of an assumption.
+pub const ASSUME_KEYS: [&str; 3] = [AFTER, X, Y];
 
 /// The keys of an event of a span.
 #[derive(Clone, Copy)]

@@ -5,6 +5,7 @@ ghost use Rattle.toml.specs.Data.{as_str};
 ghost use Rattle.toml.specs.View.{items_view, table_view, view};
 ghost use Rattle.block_config.specs.Arrays.{count_items};
 ghost use Rattle.block_config.specs.Loads.{loaded_of};
+ghost use Rattle.block_config.specs.Assume as assume;
 ghost use Rattle.block_config.specs.Spans as spec;
 ghost use Rattle.block_config.specs.Tables.{seen};
 ghost use Rattle.block_config.specs.Values.{map_ok};
@@ -115,8 +116,8 @@ fn label_of_element(load: Option<LoadedProgram>, value: &Value) -> Result<u8, Co
 }
 
 /// The address of a label.
-fn label_in(load: Option<LoadedProgram>, name: &[u8]) -> Result<u8, ConfigKind>
-    ensures value { result ≡ spec.label_in (option_map loaded_of load.entry) name.now }
+pub fn label_in(load: Option<LoadedProgram>, name: &[u8]) -> Result<u8, ConfigKind>
+    ensures value { result ≡ assume.label_in (option_map loaded_of load.entry) name.now }
     ensures in_memory { IfOk result (λ a. a < 32) }
 {
     let Some(load) = load else {

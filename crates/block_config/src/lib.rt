@@ -2,6 +2,7 @@
 #![tactic(auto)]
 
 mod arrays;
+mod assume;
 mod config;
 mod defaults;
 mod edges;

@@ -15,6 +15,8 @@ pub enum Section {
     Machine(usize),
     Pins,
     Span(usize),
+    /// An assumption of a span.
+    Assume(usize, usize),
 }
 
 impl fmt::Display for Section {
@@ -26,6 +28,7 @@ impl fmt::Display for Section {
             Section::Machine(place) => write!(f, "machine[{place}]"),
             Section::Pins => f.write_str("pins"),
             Section::Span(place) => write!(f, "span[{place}]"),
+            Section::Assume(span, place) => write!(f, "span[{span}].assume[{place}]"),
         }
     }
 }

@@ -6,11 +6,13 @@ ghost use Rattle.toml.specs.View.{items_view, table_view, view};
 ghost use Rattle.answers.specs.Answers.{Gives};
 ghost use Rattle.setup_keys.specs.Block.{keys_of_machine, keys_of_span};
 ghost use Rattle.block_config.specs.Answer.{told};
+ghost use Rattle.block_config.specs.Assume as assume;
 ghost use Rattle.block_config.specs.Loads.{loaded_of};
 ghost use Rattle.block_config.specs.Spans as spec;
-ghost use Rattle.block_config.specs.Tables.{and_then, section_at, seen};
+ghost use Rattle.block_config.specs.Tables.{and_then, seen};
 ghost use Rattle.block_config.specs.Values.{map_ok, text_of};
 
+use crate::assume::assume_at;
 use crate::edges::{Edge, edge_at, enders_at, makers_at, pin_at};
 use crate::fault::{ConfigFault, ConfigKind};
 use crate::keys;
@@ -20,7 +22,7 @@ use crate::programs::LoadedProgram;
 use crate::table::{Lack, are_known, flag_at, number_at, value_at};
 use crate::value::{number_in, text_of};
 use arrayvec::ArrayVec;
-use pin_matrix::{Addresses, MachineSetup, Span, SpanUnit, Spans, is_span_name};
+use pin_matrix::{Addresses, Assumptions, MachineSetup, Span, SpanUnit, Spans, is_span_name};
 use pio_encode::Name;
 use std::alloc::Global;
 use toml::{Table, Value};
@@ -68,7 +70,7 @@ fn span_in(
         place [] (view value.now)) }
 {
     match value.as_table() {
-        Some(table) => span_at(alloc, Section::Span(place), machines, loads, table),
+        Some(table) => span_at(alloc, place, machines, loads, table),
         None => Err(fault_at(alloc, keys::SPAN, ConfigKind::WrongType)),
     }
 }
@@ -77,15 +79,16 @@ fn span_in(
 #[tactic(auto, using(crate::proofs::SpansInRange::named))]
 fn span_at(
     alloc: Global,
-    section: Section,
+    place: usize,
     machines: &[Option<MachineSetup>; 4],
     loads: &[LoadedProgram],
     table: &Table,
 ) -> Result<Span, ConfigFault>
     ensures { Gives told keys_of_span result
-        (section_at section spec.span_names (table_view table.now)
-        (spec.span_of_table (map (option_map keys_of_machine) machines.now) (map loaded_of loads.now) (table_view table.now))) }
+        (spec.span_at place (map (option_map keys_of_machine) machines.now) (map loaded_of loads.now)
+        (table_view table.now)) }
 {
+    let section = Section::Span(place);
     if !are_known(table, &keys::SPAN_KEYS) {
         return Err(fault_of_section(alloc, section, ConfigKind::UnknownKey));
     }
@@ -94,7 +97,10 @@ fn span_at(
         Err(lack) => return Err(fault_of_key(alloc, section, lack.key, lack.kind)),
     };
     match SpanValues::read(table, machines, loads) {
-        Ok(values) => values.span(alloc, name),
+        Ok(values) => {
+            let load = SpanValues::load_for(loads, machines, values.ends.machine);
+            values.assuming(alloc, name, place, table, load)
+        }
         Err(lack) => Err(fault_of_key(alloc, section, lack.key, lack.kind)),
     }
 }
@@ -152,6 +158,19 @@ impl SpanValues {
         }
     }
 
+    /// The load of the program that the machine of a number runs.
+    fn load_for<'a>(
+        loads: &[LoadedProgram<'a>],
+        machines: &[Option<MachineSetup>; 4],
+        machine: u8,
+    ) -> Option<LoadedProgram<'a>>
+        requires { machine < 4 }
+        ensures { option_map loaded_of result
+            ≡ spec.load_of_span (map (option_map keys_of_machine) machines.now) (map loaded_of loads.now) machine }
+    {
+        Self::load_of(loads, &machines[usize::from(machine)])
+    }
+
     /// The values of a table whose keys are known.
     fn read(
         table: &Table,
@@ -164,7 +183,7 @@ impl SpanValues {
     {
         let ends = EndValues::read(table, machines)?;
         let bounds = BoundValues::read(table)?;
-        let load = Self::load_of(loads, &machines[usize::from(ends.machine)]);
+        let load = Self::load_for(loads, machines, ends.machine);
         let exempt = ExemptValues::read(table, bounds.unit, load)?;
         let events = EventValues::read(table, load)?;
         Ok(SpanValues {
@@ -175,11 +194,29 @@ impl SpanValues {
         })
     }
 
+    /// The span of this name, with what the table at a place assumes.
+    fn assuming(
+        &self,
+        alloc: Global,
+        name: &str,
+        place: usize,
+        table: &Table,
+        load: Option<LoadedProgram>,
+    ) -> Result<Span, ConfigFault>
+        requires { IsTrue (is_span_name name.now) }
+        ensures { Gives told keys_of_span result
+            (and_then (assume.assume_at place (option_map loaded_of load.entry) (table_view table.now))
+            (λ all. Ok (spec.span_keys_of name.now (values_view self.now) all))) }
+    {
+        let assume = assume_at(alloc, place, table, load)?;
+        self.span(alloc, name, assume)
+    }
+
     /// The span of this name; none only where memory runs out.
     #[tactic(auto, using(crate::proofs::SpansInRange::few_in_ticks))]
-    fn span(&self, alloc: Global, name: &str) -> Result<Span, ConfigFault>
+    fn span(&self, alloc: Global, name: &str, assume: Assumptions) -> Result<Span, ConfigFault>
         requires { IsTrue (is_span_name name.now) }
-        ensures { Gives told keys_of_span result (Ok (spec.span_keys_of name.now (values_view self.now))) }
+        ensures { Gives told keys_of_span result (Ok (spec.span_keys_of name.now (values_view self.now) assume)) }
     {
         let text = name.to_string(alloc)?;
         let stalls = addresses_of(alloc, &self.exempt.stalls)?;
@@ -203,6 +240,7 @@ impl SpanValues {
             without,
             from_at,
             to_at,
+            assume,
         })
     }
 }

@@ -18,7 +18,7 @@ use Rattle.dreq_pacing.specs.Due.{quiet}
 use Rattle.block_core.specs.Block.{BlockState, Run, next, pads_in, run_from, seen_in, stepped, view_of}
 use Rattle.block_core.specs.declared.conduct.Conduct.{Conduct}
 use Rattle.block_core.specs.declared.conduct.Standing.{Standing}
-use Rattle.block_core.specs.Conduct.{are_places_noted, concluded, concluded_places, conduct_after, conduct_by, conduct_in, has_new_pins, is_broken_by, is_machine_noted, is_noted, is_noted_by, is_standing_noted, machine_conduct, standing_in, standings_in}
+use Rattle.block_core.specs.Conduct.{after_in, are_places_noted, concluded, concluded_places, conduct_after, conduct_by, conduct_in, has_new_pins, is_lined_by, is_machine_noted, is_noted, is_noted_by, is_standing_noted, machine_conduct, standing_in, standings_in}
 use Rattle.block_core.specs.Inside.{is_of_an_instruction, machine_inside}
 use Rattle.block_core.specs.Leaps.{leapt}
 use Rattle.block_core.specs.Slots.{Slot, acted, has_tick, lined, place_after, place_intent, slot_after, slot_intent}
@@ -128,45 +128,49 @@ is_told v d s kind waits of is h =
 told : (v : View) (d : Due) (s : Slot) → IsTold v d s (has_tick (lined d s) && (s.machine.registers.delay == 0)) (slot_after v d s).machine.registers.begun
 told v d s = is_told v d s _ _ refl (kind_acted v (lined d s)) (begun_after v d s)
 
-slot_concluded : (v : View) (d : Due) (s : Slot) → concluded (standing_in d s) (standing_in quiet (slot_after v d s)).waits ≡ machine_conduct v d s
-unfolding standing_in machine_conduct
-slot_concluded v d s =
+slot_concluded : (clock : ℕ) (v : View) (d : Due) (s : Slot) → concluded (standing_in d s) (after_in clock (slot_after v d s)) ≡ machine_conduct clock v d s
+unfolding standing_in after_in machine_conduct
+slot_concluded clock v d s =
     let t = told v d s in
     rw (t.ends, t.acts) refl
 
-slot_noted : (v : View) (d : Due) (s : Slot) → is_standing_noted (standing_in d s) (standing_in quiet (slot_after v d s)).waits ≡ is_machine_noted v d (Some s)
-unfolding standing_in
-slot_noted v d s = ap (λ (b : Bool). is_broken_by d s.machine.setup.id || b) (told v d s).notes
+slot_noted : (clock : ℕ) (v : View) (d : Due) (s : Slot) → is_standing_noted (standing_in d s) (after_in clock (slot_after v d s)).waits ≡ is_machine_noted v d (Some s)
+unfolding standing_in after_in
+slot_noted clock v d s = ap (λ (b : Bool). is_lined_by d s.machine.setup.id || b) (told v d s).notes
 
 -- the same of all places
-places_concluded : (v : View) (d : Due) (places : List (Option Slot)) → concluded_places (map (option_map (standing_in d)) places) (map (option_map (standing_in quiet)) (map (place_after v d) places)) ≡ map (option_map (machine_conduct v d)) places
-places_concluded v d [] = refl
-places_concluded v d (None ∷ places) = ap (λ rest. None ∷ rest) (places_concluded v d places)
-places_concluded v d (Some s ∷ places) = rw (slot_concluded v d s, places_concluded v d places) refl
+places_concluded : (clock : ℕ) (v : View) (d : Due) (places : List (Option Slot)) → concluded_places (map (option_map (standing_in d)) places) (map (option_map (after_in clock)) (map (place_after v d) places)) ≡ map (option_map (machine_conduct clock v d)) places
+places_concluded clock v d [] = refl
+places_concluded clock v d (None ∷ places) = ap (λ rest. None ∷ rest) (places_concluded clock v d places)
+places_concluded clock v d (Some s ∷ places) = rw (slot_concluded clock v d s, places_concluded clock v d places) refl
 
-places_noted : (v : View) (d : Due) (places : List (Option Slot)) → are_places_noted (map (option_map (standing_in d)) places) (map (option_map (standing_in quiet)) (map (place_after v d) places)) ≡ list_any (is_machine_noted v d) places
-places_noted v d [] = refl
-places_noted v d (None ∷ places) = places_noted v d places
-places_noted v d (Some s ∷ places) = rw (slot_noted v d s, places_noted v d places) refl
+places_noted : (clock : ℕ) (v : View) (d : Due) (places : List (Option Slot)) → are_places_noted (map (option_map (standing_in d)) places) (map (option_map (after_in clock)) (map (place_after v d) places)) ≡ list_any (is_machine_noted v d) places
+places_noted clock v d [] = refl
+places_noted clock v d (None ∷ places) = places_noted clock v d places
+places_noted clock v d (Some s ∷ places) = rw (slot_noted clock v d s, places_noted clock v d places) refl
 
 -- the same of a run
+pub clock_next : (d : Due) (r : Run) → (next d r).clock ≡ r.clock + 1
+unfolding next
+clock_next d r = refl
+
 machines_next : (d : Due) (r : Run) → (next d r).state.machines ≡ map (place_after (view_of r.memory (seen_in d r) r.state) d) r.state.machines
 unfolding next stepped
 machines_next d r = refl
 
-pub noted_next : (d : Due) (r : Run) → is_noted_by r.state.levels r.state.directions (standings_in d r.state) (next d r).state ≡ is_noted d r
+pub noted_next : (d : Due) (r : Run) → is_noted_by r.clock r.state.levels r.state.directions (standings_in d r.state) (next d r).state ≡ is_noted d r
 unfolding is_noted
 noted_next d r =
     ap (λ (b : Bool). b || has_new_pins r.state (next d r).state)
-    (ap (λ (places : List (Option Slot)). are_places_noted (standings_in d r.state) (map (option_map (standing_in quiet)) places)) (machines_next d r)
-    ∙ places_noted (view_of r.memory (seen_in d r) r.state) d r.state.machines)
+    (ap (λ (places : List (Option Slot)). are_places_noted (standings_in d r.state) (map (option_map (after_in r.clock)) places)) (machines_next d r)
+    ∙ places_noted r.clock (view_of r.memory (seen_in d r) r.state) d r.state.machines)
 
 pub conduct_next : (d : Due) (r : Run) → conduct_by r.clock (standings_in d r.state) (next d r).state ≡ conduct_in d r
 unfolding conduct_in
 conduct_next d r =
     let machines =
-    ap (λ (places : List (Option Slot)). concluded_places (standings_in d r.state) (map (option_map (standing_in quiet)) places)) (machines_next d r)
-    ∙ places_concluded (view_of r.memory (seen_in d r) r.state) d r.state.machines
+    ap (λ (places : List (Option Slot)). concluded_places (standings_in d r.state) (map (option_map (after_in r.clock)) places)) (machines_next d r)
+    ∙ places_concluded r.clock (view_of r.memory (seen_in d r) r.state) d r.state.machines
     in
     rw machines refl
 
@@ -217,8 +221,8 @@ none_noted r clocks calm rests k below =
     (ap (λ (x : Run). x.state.directions) then ∙ leapt_directions (suc k) r ∙ sym (ap (λ (x : Run). x.state.directions) now ∙ leapt_directions k r))
 
 -- what a block keeps of a clock that it worked out
-pub after-note : (d : Due) (r : Run) (last now : Conduct) (clock level direction : ℕ) (before : List (Option Standing)) (after : BlockState) (noted : Bool) → clock ≡ r.clock → level ≡ r.state.levels → direction ≡ r.state.directions → before ≡ standings_in d r.state → after ≡ (next d r).state → noted ≡ is_noted_by level direction before after → now ≡ cond noted (conduct_by clock before after) last → (noted ≡ is_noted d r) × (now ≡ conduct_after d r last)
+pub after-note : (d : Due) (r : Run) (last now : Conduct) (clock level direction : ℕ) (before : List (Option Standing)) (after : BlockState) (noted : Bool) → clock ≡ r.clock → level ≡ r.state.levels → direction ≡ r.state.directions → before ≡ standings_in d r.state → after ≡ (next d r).state → noted ≡ is_noted_by clock level direction before after → now ≡ cond noted (conduct_by clock before after) last → (noted ≡ is_noted d r) × (now ≡ conduct_after d r last)
 after-note d r last now clock level direction before after noted at levels directions stood is_after is_noted_now is_now =
-    let notes : is_noted_by level direction before after ≡ is_noted d r = rw (levels, directions, stood, is_after) (noted_next d r) in
+    let notes : is_noted_by clock level direction before after ≡ is_noted d r = rw (at, levels, directions, stood, is_after) (noted_next d r) in
     let told : conduct_by clock before after ≡ conduct_in d r = rw (at, stood, is_after) (conduct_next d r) in
     (is_noted_now ∙ notes, is_now ∙ rw (is_noted_now ∙ notes, told) refl)

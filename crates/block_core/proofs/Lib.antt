@@ -21,5 +21,6 @@ pub mod TwinRows
 pub mod InsideRows
 pub mod Insides
 pub mod Showing
+mod Resting
 mod Conducting
 mod ConductRows

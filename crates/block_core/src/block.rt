@@ -3,14 +3,14 @@ ghost use Rattle.std.specs.Prelude.{◌≡◌, ℕ, ◌<◌, ◌≤◌, ◌^◌,
 ghost use Rattle.dreq_pacing.specs.Due.{quiet};
 ghost use Rattle.dreq_pacing.specs.Ports.{IsFirst};
 ghost use Rattle.block_core.specs.Block.{first_run, next, pads_in, run_from, wanted_in, uses_fifos_in, level_writes, direction_writes, TakesLastWrites};
-ghost use Rattle.block_core.specs.Conduct.{standings_in};
+ghost use Rattle.block_core.specs.Conduct.{afters_in, standings_in};
 ghost use Rattle.block_core.specs.Inside.{inside_of};
 ghost use Rattle.block_core.specs.Leaps.{leapt};
 ghost use Rattle.block_core.specs.Shown.{sample_of, requests_of, moved_of};
 ghost use Rattle.block_core.specs.Stirring.{moves_on, begins_or_changes};
 
 use crate::Sample;
-use crate::conduct::Standing;
+use crate::conduct::{After, Standing};
 use crate::inside::Inside;
 use crate::news::News;
 use crate::running::Running;
@@ -173,6 +173,15 @@ impl<F: Fifo> Block<F> {
         ensures { result ≡ standings_in due.now self.now.run.state }
     {
         self.running.standings(due)
+    }
+
+    /// What its machines are after this clock, which is the one before the present one.
+    pub(crate) fn afters(&self, clock: u64) -> [Option<After>; 4]
+        requires within { clock < 2 ^ 40 }
+        requires step { self.now.run.clock ≡ clock + 1 }
+        ensures { result ≡ afters_in clock self.now.run.state }
+    {
+        self.running.afters(clock)
     }
 
     /// How many words paced transfers have moved into a machine's TX and out of its RX; none of a machine that isn't

@@ -4,7 +4,8 @@ ghost use Rattle.std.specs.Prelude.{◌≡◌, ℕ, ◌<◌, ◌≤◌, ◌^◌,
 ghost use Rattle.dreq_pacing.specs.Due.{quiet as spec_quiet};
 ghost use Rattle.block_core.specs.Block.{next, run_from, uses_fifos_in};
 ghost use Rattle.block_core.specs.Conduct as spec;
-ghost use Rattle.block_core.specs.Conduct.{are_places_noted, concluded_places, conduct_after, is_noted, no_conduct, standing_in, standings_in};
+ghost use Rattle.block_core.specs.Conduct.{after_in, are_places_noted, concluded_places, conduct_after, is_noted, no_conduct, standing_in};
+ghost use Rattle.block_core.specs.Kept.{IsInStep};
 ghost use Rattle.block_core.specs.Leaps.{leapt};
 ghost use Rattle.block_core.specs.Stirring.{moves_on};
 
@@ -14,7 +15,7 @@ use dreq_pacing::Due;
 use fifo_pair::Fifo;
 use std::marker::Model;
 
-/// What one machine did in one clock, and how it stood at the clock's start.
+/// What one machine did in one clock, how it stood at the clock's start, and what it was after it.
 #[derive(Clone, Copy)]
 pub struct MachineConduct {
     /// Its PC at the clock's start.
@@ -30,10 +31,17 @@ pub struct MachineConduct {
     pub finishes: bool,
     /// Whether a line of the clock disabled it, or restarted its divider.
     pub breaks: bool,
+    /// X after the clock.
+    pub x: u32,
+    /// Y after it.
+    pub y: u32,
+    /// The clock in which the last tick of its delay comes if no line acts on it: this one where no delay is left, and
+    /// none while it is disabled.
+    pub rests: Option<u64>,
 }
 
-/// What was done in the last clock of note: one in which a machine began or finished an instruction, or was disabled or
-/// its divider restarted, or the level or the direction of a pin changed.
+/// What was done in the last clock of note: one in which a machine began or finished an instruction, or a line enabled
+/// or disabled it or restarted its divider, or the level or the direction of a pin changed.
 #[derive(Clone, Copy)]
 pub struct Conduct {
     /// The number of that clock.
@@ -55,6 +63,16 @@ pub(crate) struct Standing {
     pub(crate) pending: bool,
     pub(crate) acts: bool,
     pub(crate) breaks: bool,
+    pub(crate) lined: bool,
+}
+
+/// What a machine is after a clock.
+#[derive(Clone, Copy)]
+pub(crate) struct After {
+    pub(crate) waits: bool,
+    pub(crate) x: u32,
+    pub(crate) y: u32,
+    pub(crate) rests: Option<u64>,
 }
 
 /// A block, with what was done in its last clock of note.
@@ -178,12 +196,13 @@ fn told<F: Fifo>(
     direction: u32,
     before: &[Option<Standing>; 4],
 ) -> (bool, Conduct)
-    ensures noted { result.0 ≡ spec.is_noted_by level direction before.now block.now.run.state }
+    requires clock { block.now.run.clock ≡ clock + 1 }
+    requires within { clock < 2 ^ 40 }
+    ensures noted { result.0 ≡ spec.is_noted_by clock level direction before.now block.now.run.state }
     ensures last { result.1
         ≡ if result.0 then spec.conduct_by clock before.now block.now.run.state else last.now }
 {
-    let quiet = Due::quiet();
-    let after = block.standings(&quiet);
+    let after = block.afters(clock);
     let (new_level, new_direction) = pins(block);
     let same = (level == new_level) & (direction == new_direction);
     if !(are_noted(before, &after) | !same) {
@@ -208,8 +227,20 @@ pub(crate) fn stands<F: Fifo>(slot: &Option<Slot<F>>, due: &Due) -> Option<Stand
     }
 }
 
-/// Whether what the machines did in a clock is of note, by how they stood before it and stand after it.
-fn are_noted(before: &[Option<Standing>; 4], after: &[Option<Standing>; 4]) -> bool
+/// What the machine of a place is after this clock.
+pub(crate) fn stands_after<F: Fifo>(slot: &Option<Slot<F>>, clock: u64) -> Option<After>
+    requires within { clock < 2 ^ 40 }
+    requires step { IsInStep (clock + 1) slot.now }
+    ensures { result ≡ option_map (after_in clock) slot.now }
+{
+    match slot {
+        Some(slot) => Some(slot.after(clock)),
+        None => None,
+    }
+}
+
+/// Whether what the machines did in a clock is of note, by how they stood before it and what they are after it.
+fn are_noted(before: &[Option<Standing>; 4], after: &[Option<After>; 4]) -> bool
     ensures { result ≡ are_places_noted before.now after.now }
 {
     let [a, b, c, d] = before;
@@ -218,21 +249,21 @@ fn are_noted(before: &[Option<Standing>; 4], after: &[Option<Standing>; 4]) -> b
 }
 
 /// The same of one place.
-fn is_noted_at(before: &Option<Standing>, after: &Option<Standing>) -> bool
+fn is_noted_at(before: &Option<Standing>, after: &Option<After>) -> bool
     ensures { result ≡ spec.is_place_noted before.now after.now }
 {
     match (before, after) {
         (Some(before), Some(after)) => {
-            before.breaks | (before.acts & (!before.waits | !after.waits))
+            before.lined | (before.acts & (!before.waits | !after.waits))
         }
         _ => false,
     }
 }
 
-/// What the machines did in a clock, by how they stood before it and stand after it.
+/// What the machines did in a clock, by how they stood before it and what they are after it.
 fn concluded(
     before: &[Option<Standing>; 4],
-    after: &[Option<Standing>; 4],
+    after: &[Option<After>; 4],
 ) -> [Option<MachineConduct>; 4]
     ensures { result ≡ concluded_places before.now after.now }
 {
@@ -247,7 +278,7 @@ fn concluded(
 }
 
 /// The same of one place.
-fn concluded_at(before: &Option<Standing>, after: &Option<Standing>) -> Option<MachineConduct>
+fn concluded_at(before: &Option<Standing>, after: &Option<After>) -> Option<MachineConduct>
     ensures { result ≡ spec.concluded_place before.now after.now }
 {
     match (before, after) {
@@ -258,6 +289,9 @@ fn concluded_at(before: &Option<Standing>, after: &Option<Standing>) -> Option<M
             works: before.acts & !before.pending,
             finishes: (before.acts & !after.waits) & !before.pending,
             breaks: before.breaks,
+            x: after.x,
+            y: after.y,
+            rests: after.rests,
         }),
         _ => None,
     }

@@ -12,6 +12,7 @@ ghost use Rattle.dreq_pacing.specs.Due.{quiet};
 ghost use Rattle.dreq_pacing.specs.declared.line.Line.{Line};
 ghost use Rattle.dreq_pacing.specs.Ports.{transfers_at, due_at};
 ghost use Rattle.block_core.specs.Block.{BlockState, Run, next, run_at, run_from, uses_fifos_in, stepped, first_state, view_of, intents_of, level_writes, direction_writes};
+ghost use Rattle.block_core.specs.Conduct.{is_lined_by, rests_in};
 ghost use Rattle.block_core.specs.History.{pad_at, last_pad, pad_before, Ticks, OfEach};
 ghost use Rattle.block_core.specs.Slots.{Slot, lined, has_tick, slot_after, slot_intent};
 ghost use Rattle.block_core.specs.Hosted.{hosted_at, host_of, asked_at};
@@ -145,4 +146,12 @@ pub fn a_machine_waits_where_it_stalls()
     ensures { (memory : List ℕ) (v : View) (d : Due) (s : Slot) →
         (machine_inside memory (slot_after v d s)).waits
         ≡ (if is_of_an_instruction (slot_intent v d s).kind then (slot_intent v d s).stalled else (machine_inside memory s).waits) }
+{}
+
+/// Where a machine is in a delay and no line acts on it, a clock leaves what was told of the delay's end. So the clock
+/// that was told, if any, is the one after which no delay is left.
+pub fn a_delay_ends_when_it_is_told()
+    ensures { (v : View) (d : Due) (clock : ℕ) (s : Slot) → s.timing.clock ≡ clock + 1 →
+        0 < s.machine.registers.delay → is_lined_by d s.machine.setup.id ≡ false →
+        rests_in (clock + 1) (slot_after v d s) ≡ rests_in clock s }
 {}

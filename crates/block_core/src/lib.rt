@@ -24,11 +24,11 @@ pub use following::{
 };
 pub use inside::{Inside, MachineInside};
 pub use laws::{
-    a_leap_changes_nothing_inside, a_leap_shows_nothing_new, a_machine_waits_where_it_stalls,
-    a_stimulus_is_a_system, clocks_are_counted, each_pin_gets_the_last_write,
-    pads_are_seen_two_clocks_late, pads_change_until_seen, pads_inside_are_the_clocks_own,
-    ticks_follow_the_divider, unused_fifos_ask_as_before, what_begins_moves_on,
-    words_go_through_in_order,
+    a_delay_ends_when_it_is_told, a_leap_changes_nothing_inside, a_leap_shows_nothing_new,
+    a_machine_waits_where_it_stalls, a_stimulus_is_a_system, clocks_are_counted,
+    each_pin_gets_the_last_write, pads_are_seen_two_clocks_late, pads_change_until_seen,
+    pads_inside_are_the_clocks_own, ticks_follow_the_divider, unused_fifos_ask_as_before,
+    what_begins_moves_on, words_go_through_in_order,
 };
 pub use news::News;
 pub use sample::Sample;

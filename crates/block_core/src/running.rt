@@ -5,7 +5,7 @@ ghost use Rattle.dreq_pacing.specs.Due.{quiet};
 ghost use Rattle.dreq_pacing.specs.Ports.{IsFirst};
 ghost use Rattle.block_core.specs.Block.{first_run_over, next_over, pads_in, wanted_over, uses_fifos_over, level_writes, direction_writes, TakesLastWrites};
 ghost use Rattle.block_core.specs.Block as spec;
-ghost use Rattle.block_core.specs.Conduct.{standings_in};
+ghost use Rattle.block_core.specs.Conduct.{afters_in, standings_in};
 ghost use Rattle.block_core.specs.Inside.{inside_of};
 ghost use Rattle.block_core.specs.Kept.{AreTold, is_simple_over};
 ghost use Rattle.block_core.specs.Leaps.{leapt};
@@ -15,7 +15,7 @@ ghost use Rattle.block_core.specs.Stirring.{machines_stir_over, pads_change_over
 ghost use Rattle.block_core.specs.Stirring as spec_stirring;
 
 use crate::Sample;
-use crate::conduct::{Standing, stands};
+use crate::conduct::{After, Standing, stands, stands_after};
 use crate::inside::{Inside, MachineInside};
 use crate::leaps::{begins_now, leap, sooner};
 use crate::merging::{Wanted, outside_after};
@@ -401,6 +401,20 @@ impl<F: Fifo> Running<F> {
             stands(&self.second, due),
             stands(&self.third, due),
             stands(&self.fourth, due),
+        ]
+    }
+
+    /// What its machines are after this clock, which is the one before the present one.
+    pub fn afters(&self, clock: u64) -> [Option<After>; 4]
+        requires within { clock < 2 ^ 40 }
+        requires step { self.now.clock ≡ clock + 1 }
+        ensures { result ≡ afters_in clock self.now.state }
+    {
+        [
+            stands_after(&self.first, clock),
+            stands_after(&self.second, clock),
+            stands_after(&self.third, clock),
+            stands_after(&self.fourth, clock),
         ]
     }
 

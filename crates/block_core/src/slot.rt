@@ -5,14 +5,14 @@ ghost use Rattle.sm_registers.specs.Simple.{is_done, leaves_ready};
 ghost use Rattle.sm_registers.specs.State as spec_shown;
 ghost use Rattle.dreq_pacing.specs.Due.{quiet};
 ghost use Rattle.dreq_pacing.specs.Ports.{IsFirst};
-ghost use Rattle.block_core.specs.Conduct.{standing_in};
+ghost use Rattle.block_core.specs.Conduct.{after_in, rests_in, standing_in};
 ghost use Rattle.block_core.specs.Inside.{machine_inside};
 ghost use Rattle.block_core.specs.Leaps.{leapt_slot, stirs_after};
 ghost use Rattle.block_core.specs.Stirring.{begins_now};
 ghost use Rattle.block_core.specs.Slots as spec;
 ghost use Rattle.block_core.specs.Slots.{lined, acted, settled_slot, slot_after, slot_intent, slot_uses_fifos, used_by};
 
-use crate::conduct::Standing;
+use crate::conduct::{After, Standing};
 use crate::inside::{MachineInside, word_at};
 use clock_divider::Divider;
 use dreq_pacing::Due;
@@ -294,7 +294,42 @@ impl<F: Fifo> Slot<F> {
             pending,
             acts: ticks & (registers.delay == 0),
             breaks: due.disable[place] | due.restart[place],
+            lined: due.disable[place] | due.restart[place] | due.enable[place],
         }
+    }
+
+    /// What it is after this clock, which is the one before the present one.
+    #[tactic(auto, unfolding(crate::specs::Conduct::after_in))]
+    pub fn after(&self, clock: u64) -> After
+        requires within { clock < 2 ^ 40 }
+        requires step { self.now.timing.clock ≡ clock + 1 }
+        ensures { result ≡ after_in clock self.now }
+    {
+        let registers = self.machine.registers();
+        let waits = registers.begun;
+        After {
+            waits,
+            x: registers.x,
+            y: registers.y,
+            rests: self.rests(clock),
+        }
+    }
+
+    /// The clock in which the last tick of its delay comes, as this clock says it.
+    #[tactic(auto, unfolding(crate::specs::Conduct::rests_in))]
+    fn rests(&self, clock: u64) -> Option<u64>
+        requires within { clock < 2 ^ 40 }
+        requires step { self.now.timing.clock ≡ clock + 1 }
+        ensures { result ≡ rests_in clock self.now }
+    {
+        let delay = self.machine.registers().delay;
+        if delay == 0 {
+            return Some(clock);
+        }
+        if !self.enabled {
+            return None;
+        }
+        Some(clock + 1 + self.divider.clocks_to_tick(u64::from(delay - 1)))
     }
 
     /// Whether the present clock is a tick of it, if these lines act in it.

@@ -2,6 +2,8 @@
 use Rattle.std.proofs.Common.{◌≡◌, ◌∙◌, ℕ, Bool, true, Option, Some, None, IfSome, List, Result, Ok, Err, option_map, refl, sym, ap, subst}
 use Rattle.pio_edge.specs.Count.{Faults, failed_at}
 use Rattle.pio_edge.specs.Edge.{Files}
+use Rattle.pio_edge.specs.Fetched.{Fetched}
+use Rattle.pin_matrix.specs.Followed.{followed}
 use Rattle.pin_matrix.specs.declared.setup.Setup.{Setup}
 use Rattle.pin_matrix.specs.declared.span.Span.{Span}
 use Rattle.span_bounds.specs.declared.row.Row.{Row}
@@ -16,13 +18,14 @@ use Rattle.fault_lines.specs.declared.fault.Fault.TheVariants as fault
 use Rattle.command_line.specs.Words.{Asked, table, recheck}
 use Rattle.stages.specs.Judged.{Judged, right, wrong, and_then, IfRight, is_right, prepared_at, judged_span, span_at, table_at, recheck_at}
 use Rattle.stages.specs.Roles.{run_reaches}
-use Rattle.stages.specs.Fetching.{name_in, one_slot, run_slots}
+use Rattle.stages.specs.Fetching.{AsksUntil, name_in, one_slot, run_slots}
 use Rattle.stages.specs.Stages.{HasSuch, Plan, ReadFails, shelved, run_plan, table_plan}
 use Rattle.commands.specs.Outside.{call_of}
-use Rattle.commands.specs.Promise.{CommandEnds, ShelfFails}
+use Rattle.commands.specs.Promise.{CommandEnds, EndsTooLong, Faulty, ShelfFails}
 use Rattle.commands.specs.Tasks.{Task, tabled, rechecked, judge, file_in, reaches}
 use Rattle.commands.specs.Needs.{IsNamedAt}
 use Rattle.commands.specs.Tables.{IsTold, TellsTable, TellsRecheck}
+use Rattle.commands.proofs.Asking.{no_table}
 
 -- what follows of known files from one fact, and from two
 told : (files : Option Files) (P R : Files → Type 0) → ((f : Files) → P f → R f) → IfSome files P → IfSome files R
@@ -64,7 +67,7 @@ table_wrong f source config name e h = ap (λ (j : Judged (Setup × Span)). and_
 recheck_wrong : (f : Files) (source : List ℕ) (config : Option (List ℕ)) (name table_name : List ℕ) (e : Fault) → span_at f source config name ≡ wrong e → judge f (recheck source config name table_name) ≡ wrong e
 unfolding judge recheck_at
 recheck_wrong f source config name table_name e h =
-    ap (λ (j : Judged (Setup × Span)). as_task (and_then j (λ asked. with_rows (table_at f table_name) asked))) h
+    ap (λ (j : Judged (Setup × Span)). as_task (and_then j (λ asked. with_rows (table_at (followed asked.1) f table_name) asked))) h
 
 -- ---- the span of a name
 
@@ -122,18 +125,18 @@ tabled_ends : (files : Option Files) (faults : Faults) (before after : Output) (
     → Some (at, sp) ≡ named_from 0 name u.spans → IfSome files (λ f. span_at f source config name ≡ right (u, sp)) → TellsTable u at sp before after r → CommandEnds (table source config name) (call_of files faults faults before after) r
 tabled_ends files faults before after source config name u at sp (Ok done) found t h = record {
   writes = record {
-    text = told files _ _ (λ f e. if_right _ _ _ (judged_tabled f source config name u sp e) (h.1.1.0, h.1.1.1, h.1.1.2.taken)) t;
-    handed = h.1.1.2.handed;
-    out = h.1.1.2.faults;
+    text = told files _ _ (λ f e. if_right _ _ _ (judged_tabled f source config name u sp e) (h.1.1.0, h.1.1.1, (h.1.1.2.0, h.1.1.2.1.taken))) t;
+    handed = h.1.1.2.1.handed;
+    out = h.1.1.2.1.faults;
   };
   spans = told files _ _ (λ f e. if_right _ _ _ (judged_tabled f source config name u sp e) h.0) t;
   holds = told files _ _ (λ f e. if_right _ _ _ (judged_tabled f source config name u sp e) h.1.0) t;
   shelf = refl;
 }
 tabled_ends files faults before after source config name u at sp (Err fault.Out) found t h = record {
-  part = told files _ _ (λ f e. if_right _ _ _ (judged_tabled f source config name u sp e) (h.1.0, h.1.1, h.1.2.part)) t;
+  part = told files _ _ (λ f e. if_right _ _ _ (judged_tabled f source config name u sp e) (h.1.0, h.1.1, (h.1.2.0, h.1.2.1.part))) t;
   spans = told files _ _ (λ f e. if_right _ _ _ (judged_tabled f source config name u sp e) h.0) t;
-  rose = h.1.2.rose;
+  rose = h.1.2.1.rose;
   shelf = refl;
 }
 tabled_ends files faults before after source config name u at sp (Err fault.Memory) found t h = record { shelf = refl; out = h }
@@ -146,6 +149,11 @@ tabled_ends files faults before after source config name u at sp (Err fault.Usag
 tabled_ends files faults before after source config name u at sp (Err (fault.SecondUnproved place n refusal)) found t h = absurd h
 tabled_ends files faults before after source config name u at sp (Err fault.NoSpan) found t h = absurd h
 tabled_ends files faults before after source config name u at sp (Err (fault.Shelf role)) found t h = absurd h
+tabled_ends files faults before after source config name u at sp (Err (fault.TooLong file.Table)) found t h = record {
+  text = told files _ _ (λ f e. if_right _ _ _ (judged_tabled f source config name u sp e) h.0.1) t;
+  spans = told files _ _ (λ f e. if_right _ _ _ (judged_tabled f source config name u sp e) h.0.0) t;
+  untouched = record { shelf = refl; out = h.1 };
+}
 tabled_ends files faults before after source config name u at sp (Err (fault.TooLong role)) found t h = absurd h
 tabled_ends files faults before after source config name u at sp (Err (fault.Words line kind)) found t h = absurd h
 tabled_ends files faults before after source config name u at sp (Err (fault.Source line kind)) found t h = absurd h
@@ -157,23 +165,23 @@ tabled_ends files faults before after source config name u at sp (Err (fault.Fla
 
 -- ---- a table that is rechecked
 
-judged_rechecked : (f : Files) (source : List ℕ) (config : Option (List ℕ)) (name file : List ℕ) (u : Setup) (sp : Span) (rows : List Row) → span_at f source config name ≡ right (u, sp) → table_at f file ≡ right rows
+judged_rechecked : (f : Files) (source : List ℕ) (config : Option (List ℕ)) (name file : List ℕ) (u : Setup) (sp : Span) (rows : List Row) → span_at f source config name ≡ right (u, sp) → table_at (followed sp) f file ≡ right rows
     → judge f (recheck source config name file) ≡ right (rechecked u sp rows)
 unfolding judge recheck_at
 judged_rechecked f source config name file u sp rows e g =
-    ap (λ (j : Judged (Setup × Span)). as_task (and_then j (λ asked. with_rows (table_at f file) asked))) e
+    ap (λ (j : Judged (Setup × Span)). as_task (and_then j (λ asked. with_rows (table_at (followed asked.1) f file) asked))) e
     ∙ ap (λ (j : Judged (List Row)). as_task (with_rows j (u, sp))) g
 
-judged_wrong : (f : Files) (source : List ℕ) (config : Option (List ℕ)) (name file : List ℕ) (u : Setup) (sp : Span) (e : Fault) → span_at f source config name ≡ right (u, sp) → table_at f file ≡ wrong e
+judged_wrong : (f : Files) (source : List ℕ) (config : Option (List ℕ)) (name file : List ℕ) (u : Setup) (sp : Span) (e : Fault) → span_at f source config name ≡ right (u, sp) → table_at (followed sp) f file ≡ wrong e
     → judge f (recheck source config name file) ≡ wrong e
 unfolding judge recheck_at
 judged_wrong f source config name file u sp e s g =
-    ap (λ (j : Judged (Setup × Span)). as_task (and_then j (λ asked. with_rows (table_at f file) asked))) s
+    ap (λ (j : Judged (Setup × Span)). as_task (and_then j (λ asked. with_rows (table_at (followed asked.1) f file) asked))) s
     ∙ ap (λ (j : Judged (List Row)). as_task (with_rows j (u, sp))) g
 
 -- where the files give this span and this table, their verdict ends the command `recheck`
 rechecked_ends : (files : Option Files) (faults : Faults) (before after : Output) (source : List ℕ) (config : Option (List ℕ)) (name file : List ℕ) (u : Setup) (at : ℕ) (sp : Span) (rows : List Row) (r : Result (Unit {0}) Fault)
-    → Some (at, sp) ≡ named_from 0 name u.spans → IfSome files (λ f. span_at f source config name ≡ right (u, sp)) → IfSome files (λ f. table_at f file ≡ right rows) → TellsRecheck u at sp rows before after r → CommandEnds (recheck source config name file) (call_of files faults faults before after) r
+    → Some (at, sp) ≡ named_from 0 name u.spans → IfSome files (λ f. span_at f source config name ≡ right (u, sp)) → IfSome files (λ f. table_at (followed sp) f file ≡ right rows) → TellsRecheck u at sp rows before after r → CommandEnds (recheck source config name file) (call_of files faults faults before after) r
 rechecked_ends files faults before after source config name file u at sp rows (Ok done) found s t h = record {
   writes = record {
     text = both_told files _ _ _ (λ f e g. if_right _ _ _ (judged_rechecked f source config name file u sp rows e g) h.1.1.taken) s t;
@@ -233,24 +241,27 @@ read_fails : {X : Type 0} (a : Asked) (files : Option Files) (before after : Fau
     → ((role : File) (name : List ℕ) → name_in plan.slots role ≡ Some name → IfSome files (λ f. plan.reaches f role ≡ true)
     → IfSome files (λ f. reaches f a role ≡ true))
     → (IfSome files (λ f. plan.comes_to f ≡ wrong e) → IfSome files (λ f. judge f a ≡ wrong e))
+    → ((role : File) → e ≡ fault.TooLong role → Faulty (call_of files before after out out) a (fault.TooLong role)
+    → EndsTooLong a (call_of files before after out out) role)
     → ReadFails (shelved files before after) plan e → CommandEnds a (call_of files before after out out) (Err e)
-read_fails a files before after out plan (fault.Shelf role) named reached wrongs h =
+read_fails a files before after out plan (fault.Shelf role) named reached wrongs long h =
     shelf_fails a files before after out role (name_in plan.slots role) (λ f. plan.reaches f role ≡ true)
     (named role) (reached role) h.0 h.1
-read_fails a files before after out plan fault.Memory named reached wrongs h = record { shelf = h; out = refl }
-read_fails a files before after out plan fault.Usage named reached wrongs h = absurd h
-read_fails a files before after out plan (fault.SecondUnproved place n refusal) named reached wrongs h = absurd h
-read_fails a files before after out plan fault.Out named reached wrongs h = absurd h
-read_fails a files before after out plan (fault.Unproved place n refusal) named reached wrongs h = absurd h
-read_fails a files before after out plan (fault.Flaw place n flaw) named reached wrongs h = absurd h
-read_fails a files before after out plan (fault.TooLong role) named reached wrongs h = record { judged = wrongs h.1; untouched = record { shelf = h.0; out = refl } }
-read_fails a files before after out plan (fault.Words line kind) named reached wrongs h = record { judged = wrongs h.1; untouched = record { shelf = h.0; out = refl } }
-read_fails a files before after out plan (fault.Source line kind) named reached wrongs h = record { judged = wrongs h.1; untouched = record { shelf = h.0; out = refl } }
-read_fails a files before after out plan (fault.Config key kind) named reached wrongs h = record { judged = wrongs h.1; untouched = record { shelf = h.0; out = refl } }
-read_fails a files before after out plan (fault.Second key kind) named reached wrongs h = record { judged = wrongs h.1; untouched = record { shelf = h.0; out = refl } }
-read_fails a files before after out plan (fault.Stim line kind) named reached wrongs h = record { judged = wrongs h.1; untouched = record { shelf = h.0; out = refl } }
-read_fails a files before after out plan (fault.Table line kind) named reached wrongs h = record { judged = wrongs h.1; untouched = record { shelf = h.0; out = refl } }
-read_fails a files before after out plan fault.NoSpan named reached wrongs h = record { judged = wrongs h.1; untouched = record { shelf = h.0; out = refl } }
+read_fails a files before after out plan fault.Memory named reached wrongs long h = record { shelf = h; out = refl }
+read_fails a files before after out plan fault.Usage named reached wrongs long h = absurd h
+read_fails a files before after out plan (fault.SecondUnproved place n refusal) named reached wrongs long h = absurd h
+read_fails a files before after out plan fault.Out named reached wrongs long h = absurd h
+read_fails a files before after out plan (fault.Unproved place n refusal) named reached wrongs long h = absurd h
+read_fails a files before after out plan (fault.Flaw place n flaw) named reached wrongs long h = absurd h
+read_fails a files before after out plan (fault.TooLong role) named reached wrongs long h =
+    long role refl (record { judged = wrongs h.1; untouched = record { shelf = h.0; out = refl } })
+read_fails a files before after out plan (fault.Words line kind) named reached wrongs long h = record { judged = wrongs h.1; untouched = record { shelf = h.0; out = refl } }
+read_fails a files before after out plan (fault.Source line kind) named reached wrongs long h = record { judged = wrongs h.1; untouched = record { shelf = h.0; out = refl } }
+read_fails a files before after out plan (fault.Config key kind) named reached wrongs long h = record { judged = wrongs h.1; untouched = record { shelf = h.0; out = refl } }
+read_fails a files before after out plan (fault.Second key kind) named reached wrongs long h = record { judged = wrongs h.1; untouched = record { shelf = h.0; out = refl } }
+read_fails a files before after out plan (fault.Stim line kind) named reached wrongs long h = record { judged = wrongs h.1; untouched = record { shelf = h.0; out = refl } }
+read_fails a files before after out plan (fault.Table line kind) named reached wrongs long h = record { judged = wrongs h.1; untouched = record { shelf = h.0; out = refl } }
+read_fails a files before after out plan fault.NoSpan named reached wrongs long h = record { judged = wrongs h.1; untouched = record { shelf = h.0; out = refl } }
 
 none_named : (name : List ℕ) → ◌≡◌ {A = Option (List ℕ)} None (Some name) → ⊥
 none_named name e = cc
@@ -260,17 +271,29 @@ no_name name e = absurd (none_named name e)
 
 -- what source and configuration fail with ends the command `table`
 pub table_unread : (files : Option Files) (before after : Faults) (out : Output) (source : List ℕ) (config : Option (List ℕ)) (name : List ℕ) (e : Fault)
-    → ReadFails (shelved files before after) (run_plan source config None) e → CommandEnds (table source config name) (call_of files before after out out) (Err e)
-table_unread files before after out source config name e h =
+    (had has : List Fetched) → ReadFails (shelved files before after) (run_plan source config None) e → AsksUntil (run_slots source config None) had has e
+    → CommandEnds (table source config name) (call_of files before after out out) (Err e)
+table_unread files before after out source config name e had has h asks =
     read_fails (table source config name) files before after out (run_plan source config None) e
-    (λ role n at. at) (λ role n at r. r) (λ w. told files _ _ (λ f g. table_wrong f source config name e (span_wrong f source config name e g)) w) h
+    (λ role n at. at) (λ role n at r. r) (λ w. told files _ _ (λ f g. table_wrong f source config name e (span_wrong f source config name e g)) w) long h
+  where
+    long : (role : File) → e ≡ fault.TooLong role → Faulty (call_of files before after out out) (table source config name) (fault.TooLong role)
+        → EndsTooLong (table source config name) (call_of files before after out out) role
+    long file.Table is k =
+        absurd (no_table source config had has (subst (λ (x : Fault). AsksUntil (run_slots source config None) had has x) is asks))
+    long file.Source is k = k
+    long file.Words is k = k
+    long file.Config is k = k
+    long file.Second is k = k
+    long file.Stimulus is k = k
+    long file.Send is k = k
 
 -- and the command `recheck`
 pub recheck_unread : (files : Option Files) (before after : Faults) (out : Output) (source : List ℕ) (config : Option (List ℕ)) (name table_name : List ℕ) (e : Fault)
     → ReadFails (shelved files before after) (run_plan source config None) e → CommandEnds (recheck source config name table_name) (call_of files before after out out) (Err e)
 recheck_unread files before after out source config name table_name e h =
     read_fails (recheck source config name table_name) files before after out (run_plan source config None) e
-    named reached (λ w. told files _ _ (λ f g. recheck_wrong f source config name table_name e (span_wrong f source config name e g)) w) h
+    named reached (λ w. told files _ _ (λ f g. recheck_wrong f source config name table_name e (span_wrong f source config name e g)) w) (λ role is k. k) h
   where
     named : (role : File) (n : List ℕ) → name_in (run_slots source config None) role ≡ Some n
         → file_in (recheck source config name table_name) role ≡ Some n
@@ -295,11 +318,11 @@ recheck_unread files before after out source config name table_name e h =
 
 -- what the table file fails with ends `recheck`, where the files come to this span
 pub recheck_unread_table : (files : Option Files) (before after : Faults) (out : Output) (source : List ℕ) (config : Option (List ℕ)) (name table_name : List ℕ) (u : Setup) (sp : Span) (e : Fault)
-    → IfSome files (λ f. span_at f source config name ≡ right (u, sp)) → ReadFails (shelved files before after) (table_plan table_name) e
+    → IfSome files (λ f. span_at f source config name ≡ right (u, sp)) → ReadFails (shelved files before after) (table_plan (followed sp) table_name) e
     → CommandEnds (recheck source config name table_name) (call_of files before after out out) (Err e)
 recheck_unread_table files before after out source config name table_name u sp e s h =
-    read_fails (recheck source config name table_name) files before after out (table_plan table_name) e
-    named reached (λ w. both_told files _ _ _ (λ f k g. judged_wrong f source config name table_name u sp e k g) s w) h
+    read_fails (recheck source config name table_name) files before after out (table_plan (followed sp) table_name) e
+    named reached (λ w. both_told files _ _ _ (λ f k g. judged_wrong f source config name table_name u sp e k g) s w) (λ role is k. k) h
   where
     named : (role : File) (n : List ℕ) → name_in (one_slot file.Table (Some table_name)) role ≡ Some n
         → file_in (recheck source config name table_name) role ≡ Some n
@@ -346,7 +369,7 @@ recheck_found_ends files mid_files before mid after out_before out_after source 
 pub recheck_read_ends : (files : Option Files) (before after : Faults) (out_before out_after : Output) (source : List ℕ) (config : Option (List ℕ)) (name table_name : List ℕ)
     (u : Setup) (at : ℕ) (sp : Span) (rows : List Row) (r : Result (Unit {0}) Fault) → after ≡ before → IfSome files (λ f. span_at f source config name ≡ right (u, sp))
     → Some (at, sp) ≡ named_from 0 name u.spans
-    → IfSome files (λ f. table_at f table_name ≡ right rows) → TellsRecheck u at sp rows out_before out_after r
+    → IfSome files (λ f. table_at (followed sp) f table_name ≡ right rows) → TellsRecheck u at sp rows out_before out_after r
     → CommandEnds (recheck source config name table_name) (call_of files before after out_before out_after) r
 recheck_read_ends files before after out_before out_after source config name table_name u at sp rows r same s found t h =
     subst (λ (x : Faults). CommandEnds (recheck source config name table_name) (call_of files before x out_before out_after) r) (sym same)

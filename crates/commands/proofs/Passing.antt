@@ -108,7 +108,8 @@ table_passed words c f source config name p =
       given = m.1;
       rows = m.2.0;
       least = m.2.1;
-      wrote = writing words c f _ _ p m.2.2;
+      wrote = writing words c f _ _ p m.2.2.1;
+      fits = m.2.2.0;
       provable = m.3;
       holds = m.4;
     }

@@ -1,5 +1,5 @@
 -- Completeness: what a quiet call comes to, end by end.
-use Rattle.std.proofs.Common.{◌≡◌, ◌≢◌, ◌∙◌, ℕ, ◌<◌, Option, Some, None, List, IfSome, arith, refl, sym, ap, subst, le_refl}
+use Rattle.std.proofs.Common.{◌≡◌, ◌≢◌, ◌∙◌, ℕ, ◌<◌, Option, Some, None, List, IfSome, arith, inl, inr, refl, sym, ap, subst, le_refl}
 use Rattle.pin_matrix.specs.declared.setup.Setup.{Setup}
 use Rattle.pin_matrix.specs.declared.span.Span.{Span}
 use Rattle.span_verdict.specs.Sharing.{IsUnshared, IsLeastSharer}
@@ -8,16 +8,18 @@ use Rattle.verdict_lines.specs.declared.refusal.Refusal.{Refusal}
 use Rattle.verdict_lines.specs.declared.refusal.Refusal.TheVariants.{Unproved, Shared}
 use Rattle.pio_edge.specs.Count.{Faults, failed_at, one_more}
 use Rattle.pio_edge.specs.Edge.{Files, Rose, with_bytes}
+use Rattle.fault_lines.specs.declared.fault.File.{File}
+use Rattle.fault_lines.specs.declared.fault.File.TheVariants as file
 use Rattle.fault_lines.specs.declared.fault.Fault.{Fault}
 use Rattle.fault_lines.specs.declared.fault.Fault.TheVariants as fault
 use Rattle.clap.specs.Walk.{Text}
-use Rattle.command_line.specs.Words.{Asked, WordsAreTaken}
+use Rattle.command_line.specs.Words.{Asked, table, WordsAreTaken}
 use Rattle.stages.specs.Judged.{Judged, right, wrong, IfRight}
 use Rattle.stages.specs.Stages.{HasSuch}
-use Rattle.commands.specs.Tasks.{Task, need_of, judge, file_in, HasText}
+use Rattle.commands.specs.Tasks.{Task, tabled, need_of, judge, file_in, HasText, HasLongText}
 use Rattle.commands.specs.Needs.{Need, nothing, all_spans, both_spans, one_span, by_table, IsMet, IsNamedAt, IsRefusedBy, IsSecondRefusedBy, IsFlawed}
 use Rattle.commands.specs.Outside.{Call}
-use Rattle.commands.specs.Promise.{Ends}
+use Rattle.commands.specs.Promise.{Ends, EndsTooLong}
 use Rattle.commands.specs.Ends.{EndsAs}
 use Rattle.commands.specs.Wanted.{wanted}
 use Rattle.commands.specs.Complete.{EndsByTask, EndsByFiles, FilesDecide}
@@ -56,7 +58,7 @@ of_done c task (both_spans s t) h p = record {
   first_unprovable = λ not. absurd (not p.0);
   second_unprovable = λ all not. absurd (not p.1);
 }
-of_done c task (one_span u sp) h p = record { provable = λ here. (refl, h); unprovable = λ not. absurd (not p) }
+of_done c task (one_span u sp) h p = record { provable = λ here. inl (refl, h); unprovable = λ not. absurd (not p) }
 of_done c task (by_table u sp rows) h p = record {
   shared = λ m least. absurd (not_shared u sp m p.alone least);
   proved = λ here. (refl, h);
@@ -149,6 +151,22 @@ of_wrong c j e h = subst (λ (k : Judged Task). EndsByFiles c k (Some e)) (sym h
 of_faulty : (c : Call) (f : Files) (a : Asked) (e : Fault) → c.files ≡ Some f → IfSome c.files (λ g. judge g a ≡ wrong e) → EndsByFiles c (judge f a) (Some e)
 of_faulty c f a e told h = of_wrong c (judge f a) e (of_told (λ g. judge g a ≡ wrong e) c.files f told h)
 
+-- the text of the table of a provable span is too long
+long_task : (c : Call) (task : Task) → HasLongText task → IsMet (need_of task) → EndsByTask c task (Some (fault.TooLong file.Table)) (need_of task)
+long_task c (tabled u sp) h p = record { provable = λ here. inr (refl, h); unprovable = λ not. absurd (not p) }
+long_task c task h p = absurd h
+
+of_long : (c : Call) (j : Judged Task) → IfRight j HasLongText → IfRight j (λ task. IsMet (need_of task)) → EndsByFiles c j (Some (fault.TooLong file.Table))
+of_long c (right task) h p = long_task c task h p
+of_long c (wrong e) h p = absurd h
+
+-- a file is too long, or the text of a table
+of_too_long : (c : Call) (f : Files) (a : Asked) (role : File) → c.files ≡ Some f → EndsTooLong a c role → EndsByFiles c (judge f a) (Some (fault.TooLong role))
+of_too_long c f (table source config name) file.Table told h =
+    of_long c (judge f (table source config name)) (of_told (λ g. IfRight (judge g (table source config name)) HasLongText) c.files f told h.text)
+    (of_told (λ g. IfRight (judge g (table source config name)) (λ task. IsMet (need_of task))) c.files f told h.spans)
+of_too_long c f a role told h = of_faulty c f a (fault.TooLong role) told h.judged
+
 -- a failed fetch raises the count
 failed_rose : (name : Option (List ℕ)) (before after : Faults) → HasSuch name (λ n. after ≡ failed_at n before) → Rose before.count after.count
 failed_rose None before after h = absurd h
@@ -171,7 +189,7 @@ ends_by_files (Some a) c f (Some (fault.SecondUnproved place name r)) h told usa
 ends_by_files (Some a) c f (Some (fault.Flaw place name flaw)) h told usage memory shelf out =
     of_flawed c (judge f a) place name flaw (of_told (λ g. IfRight (judge g a) (λ task. IsFlawed (need_of task) place name flaw)) c.files f told h.first)
 ends_by_files (Some a) c f (Some fault.Out) h told usage memory shelf out = absurd (out h.rose)
-ends_by_files (Some a) c f (Some (fault.TooLong role)) h told usage memory shelf out = of_faulty c f a _ told h.judged
+ends_by_files (Some a) c f (Some (fault.TooLong role)) h told usage memory shelf out = of_too_long c f a role told h
 ends_by_files (Some a) c f (Some (fault.Words line kind)) h told usage memory shelf out = of_faulty c f a _ told h.judged
 ends_by_files (Some a) c f (Some (fault.Source line kind)) h told usage memory shelf out = of_faulty c f a _ told h.judged
 ends_by_files (Some a) c f (Some (fault.Config key kind)) h told usage memory shelf out = of_faulty c f a _ told h.judged

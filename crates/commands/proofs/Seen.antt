@@ -5,6 +5,7 @@ use Rattle.pin_matrix.specs.declared.span.Span.{Span}
 use Rattle.span_meter.specs.declared.pins.ShownPins.{ShownPins}
 use Rattle.span_meter.specs.declared.seen.SeenDistances.{SeenDistances}
 use Rattle.span_meter.specs.Measured.{SpanEdges, ends_in, measured, pins_in, seen_of}
+use Rattle.span_meter.specs.Assumed.{spoken_seen}
 use Rattle.span_meter.specs.Events.{SpanEvents, events_in, is_any_selective, is_selective, marks}
 use Rattle.span_meter.specs.Meters.{HasMeasured, Meters, first_told, seen_so_far, watched}
 use Rattle.span_meter.specs.Spoken.{spoken}
@@ -17,6 +18,7 @@ use Rattle.commands.specs.declared.metered.Metered.{Metered}
 use Rattle.commands.specs.Metered.{seen_of_each}
 use Rattle.commands.specs.Tasks.{measured_text, seen_in}
 use Rattle.commands.specs.Lines.{seen_lines}
+use Rattle.span_meter.proofs.PlainSpans.{all_spoken, plain_assumes}
 use Rattle.commands.proofs.LineByLine.{lines_of_each}
 
 -- a fresh meter names its pins and its edges
@@ -28,8 +30,8 @@ pub spoken_names : (pins : ShownPins) (events : List SpanEvents) (t : SpokenMete
 spoken_names pins events t h = ap₂ spoken_told h.first h.watches
 
 -- what such a meter and the other say of a span
-abbrev spoken_seen : Run → Span → List Line → ℕ → SeenDistances
-spoken_seen start sp lines clocks = seen_of (spoken (marks (events_in sp) 0 (pins_in start.state) (conducts start lines clocks)))
+abbrev seen_spoken : Run → Span → List Line → ℕ → SeenDistances
+seen_spoken start sp lines clocks = spoken_seen (events_in sp) (pins_in start.state) (conducts start lines clocks)
 
 abbrev plain_seen : Run → Span → List Line → ℕ → SeenDistances
 plain_seen start sp lines clocks = seen_of (measured (ends_in sp) (pins_in start.state) (samples start lines clocks))
@@ -39,14 +41,15 @@ abbrev pub MeasuresAll : Type 0
 MeasuresAll = (start : Run) (sp : Span) (lines : List Line) (clocks : ℕ) → is_selective sp ≡ false
     → spoken (marks (events_in sp) 0 (pins_in start.state) (conducts start lines clocks)) ≡ measured (ends_in sp) (pins_in start.state) (samples start lines clocks)
 
-spoken_is : MeasuresAll → (start : Run) (sp : Span) (lines : List Line) (clocks : ℕ) → spoken_seen start sp lines clocks ≡ seen_in start sp lines clocks
+spoken_is : MeasuresAll → (start : Run) (sp : Span) (lines : List Line) (clocks : ℕ) → seen_spoken start sp lines clocks ≡ seen_in start sp lines clocks
 spoken_is same start sp lines clocks = on (is_selective sp) refl where
-  on : (b : Bool) → is_selective sp ≡ b → spoken_seen start sp lines clocks ≡ cond b (spoken_seen start sp lines clocks) (plain_seen start sp lines clocks)
+  on : (b : Bool) → is_selective sp ≡ b → seen_spoken start sp lines clocks ≡ cond b (seen_spoken start sp lines clocks) (plain_seen start sp lines clocks)
   on true e = refl
-  on false e = ap seen_of (same start sp lines clocks e)
+  on false e =
+      all_spoken (events_in sp) (pins_in start.state) (conducts start lines clocks) (plain_assumes sp e) ∙ ap seen_of (same start sp lines clocks e)
 
 each_spoken : MeasuresAll → (start : Run) (lines : List Line) (clocks : ℕ) (spans : List Span)
-    → map (λ e. seen_of (spoken (marks e 0 (pins_in start.state) (conducts start lines clocks)))) (map events_in spans) ≡ map (λ sp. seen_in start sp lines clocks) spans
+    → map (λ e. spoken_seen e (pins_in start.state) (conducts start lines clocks)) (map events_in spans) ≡ map (λ sp. seen_in start sp lines clocks) spans
 each_spoken same start lines clocks [] = refl
 each_spoken same start lines clocks (sp ∷ spans) =
     ap₂ (λ (s : SeenDistances) (rest : List SeenDistances). s ∷ rest) (spoken_is same start sp lines clocks) (each_spoken same start lines clocks spans)
@@ -61,7 +64,7 @@ each_plain start lines clocks [] none = refl
 each_plain start lines clocks (sp ∷ spans) none =
     let parts = or_false (is_selective sp) (is_any_selective spans) none in
     let here : plain_seen start sp lines clocks ≡ seen_in start sp lines clocks =
-    ap (λ (b : Bool). cond b (spoken_seen start sp lines clocks) (plain_seen start sp lines clocks)) (sym parts.0)
+    ap (λ (b : Bool). cond b (seen_spoken start sp lines clocks) (plain_seen start sp lines clocks)) (sym parts.0)
     in
     ap₂ (λ (s : SeenDistances) (rest : List SeenDistances). s ∷ rest) here (each_plain start lines clocks spans parts.1)
 
@@ -70,7 +73,7 @@ pub spoken_in_run : MeasuresAll → (start now : Run) (pins : ShownPins) (spans 
     → HasSpoken pins (map events_in spans) (conducts now lines clocks) t → spoken_so_far t ≡ map (λ sp. seen_in start sp lines clocks) spans
 spoken_in_run same start now pins spans lines clocks t run first h =
     h.seen
-    ∙ ap (λ before. map (λ e. seen_of (spoken (marks e 0 before (conducts now lines clocks)))) (map events_in spans)) first
+    ∙ ap (λ before. map (λ e. spoken_seen e before (conducts now lines clocks)) (map events_in spans)) first
     ∙ each_spoken same now lines clocks spans
     ∙ ap (λ r. map (λ sp. seen_in r sp lines clocks) spans) run
 

@@ -1,9 +1,10 @@
 -- The fault of a span that isn't provable, of a table with a flaw, and of a text that was written.
-use Rattle.std.proofs.Common.{◌≡◌, ℕ, List, Result, Ok, Err, inl, inr, refl, sym, subst}
+use Rattle.std.proofs.Common.{◌≡◌, ℕ, ◌≤◌, length, List, Result, Ok, Err, inl, inr, refl, sym, subst}
 use Rattle.pin_matrix.specs.declared.setup.Setup.{Setup}
 use Rattle.pin_matrix.specs.declared.span.Span.{Span}
 use Rattle.span_bounds.specs.declared.row.Row.{Row}
 use Rattle.span_bounds.specs.Answers.{IsGoodLeast}
+use Rattle.span_bounds.specs.Tables.{FollowedRows}
 use Rattle.span_check.specs.Proved.{HoldsInEveryRun, VerdictHolds}
 use Rattle.span_verdict.specs.declared.table_flaw.Flaw.{Flaw}
 use Rattle.span_verdict.specs.declared.verdict.Verdict.{Verdict}
@@ -12,13 +13,15 @@ use Rattle.span_verdict.specs.Verdicts.{IsVerdict}
 use Rattle.verdict_lines.specs.declared.refusal.Refusal.{Refusal}
 use Rattle.table_files.specs.FlawLines.{rechecked_line}
 use Rattle.table_files.specs.Rows.{table_text}
+use Rattle.fault_lines.specs.declared.fault.File.TheVariants as file
 use Rattle.fault_lines.specs.declared.fault.Fault.{Fault}
 use Rattle.fault_lines.specs.declared.fault.Fault.TheVariants as fault
 use Rattle.fault_lines.specs.Output.{Output}
+use Rattle.stages.specs.Judged.{limit}
 use Rattle.stages.specs.Spans.{IsProvableAlone, IsRefused}
 use Rattle.commands.specs.Needs.{HasFlaw, IsProvedBy, IsSharedBy}
 use Rattle.commands.specs.Written.{Writes}
-use Rattle.commands.specs.Tables.{IsTableVerdict, IsRefusalOf, IsFlawOf, TellsTable, TellsRecheck, table_or}
+use Rattle.commands.specs.Tables.{IsTableVerdict, IsRefusalOf, IsFlawOf, TellsTable, TellsText, TellsRecheck, table_or}
 
 -- a span that isn't provable is named, or memory ran out
 pub refused_tells : (u : Setup) (at : ℕ) (sp : Span) (out : Output) (refusal : Refusal) (e : Fault) → IsRefused u sp refusal → IsRefusalOf at sp refusal e → TellsTable u at sp out out (Err e)
@@ -37,23 +40,23 @@ flaw_tells u at sp rows out flaw e h (inr is) = subst (λ (x : Fault). TellsRech
 
 -- the text of the table of a provable span was written, or why not
 pub written_tells : (u : Setup) (at : ℕ) (sp : Span) (rows : List Row) (before after : Output) (r : Result (Unit {0}) Fault) → IsProvableAlone u sp → HoldsInEveryRun u sp → IsGoodLeast u sp rows
-    → Writes before after (table_text rows) r → TellsTable u at sp before after r
-written_tells u at sp rows before after (Ok done) p k g w = (p, (k, (rows, g, w)))
-written_tells u at sp rows before after (Err fault.Out) p k g w = (p, (rows, g, w))
-written_tells u at sp rows before after (Err fault.Memory) p k g w = w
-written_tells u at sp rows before after (Err fault.Usage) p k g w = absurd w
-written_tells u at sp rows before after (Err (fault.SecondUnproved place n refusal)) p k g w = absurd w
-written_tells u at sp rows before after (Err fault.NoSpan) p k g w = absurd w
-written_tells u at sp rows before after (Err (fault.Shelf role)) p k g w = absurd w
-written_tells u at sp rows before after (Err (fault.TooLong role)) p k g w = absurd w
-written_tells u at sp rows before after (Err (fault.Words line kind)) p k g w = absurd w
-written_tells u at sp rows before after (Err (fault.Source line kind)) p k g w = absurd w
-written_tells u at sp rows before after (Err (fault.Config key kind)) p k g w = absurd w
-written_tells u at sp rows before after (Err (fault.Second key kind)) p k g w = absurd w
-written_tells u at sp rows before after (Err (fault.Stim line kind)) p k g w = absurd w
-written_tells u at sp rows before after (Err (fault.Table line kind)) p k g w = absurd w
-written_tells u at sp rows before after (Err (fault.Unproved place n refusal)) p k g w = absurd w
-written_tells u at sp rows before after (Err (fault.Flaw place n flaw)) p k g w = absurd w
+    → length (table_text rows) ≤ limit file.Table → Writes before after (table_text rows) r → TellsTable u at sp before after r
+written_tells u at sp rows before after (Ok done) p k g short w = (p, (k, (rows, g, (short, w))))
+written_tells u at sp rows before after (Err fault.Out) p k g short w = (p, (rows, g, (short, w)))
+written_tells u at sp rows before after (Err fault.Memory) p k g short w = w
+written_tells u at sp rows before after (Err fault.Usage) p k g short w = absurd w
+written_tells u at sp rows before after (Err (fault.SecondUnproved place n refusal)) p k g short w = absurd w
+written_tells u at sp rows before after (Err fault.NoSpan) p k g short w = absurd w
+written_tells u at sp rows before after (Err (fault.Shelf role)) p k g short w = absurd w
+written_tells u at sp rows before after (Err (fault.TooLong role)) p k g short w = absurd w
+written_tells u at sp rows before after (Err (fault.Words line kind)) p k g short w = absurd w
+written_tells u at sp rows before after (Err (fault.Source line kind)) p k g short w = absurd w
+written_tells u at sp rows before after (Err (fault.Config key kind)) p k g short w = absurd w
+written_tells u at sp rows before after (Err (fault.Second key kind)) p k g short w = absurd w
+written_tells u at sp rows before after (Err (fault.Stim line kind)) p k g short w = absurd w
+written_tells u at sp rows before after (Err (fault.Table line kind)) p k g short w = absurd w
+written_tells u at sp rows before after (Err (fault.Unproved place n refusal)) p k g short w = absurd w
+written_tells u at sp rows before after (Err (fault.Flaw place n flaw)) p k g short w = absurd w
 
 -- the line of a table that proves the span was written, or why not
 pub rechecked_tells : (u : Setup) (at : ℕ) (sp : Span) (rows : List Row) (before after : Output) (r : Result (Unit {0}) Fault) → IsProvedBy u sp rows → HoldsInEveryRun u sp
@@ -77,25 +80,29 @@ rechecked_tells u at sp rows before after (Err (fault.Flaw place n flaw)) p k w 
 
 -- what a verdict finds
 pub finds : (u : Setup) (sp : Span) (found : Verdict) → IsVerdict u sp found → VerdictHolds u sp found → IsTableVerdict u sp (table_or found)
-finds u sp (verdict.Proved rows opens closes) v k = (record { provable = v.provable; alone = v.alone }, (k, v.table))
+finds u sp (verdict.Proved table opens closes) v k = (record { provable = v.1.provable; alone = v.1.alone }, (k, v.1.table))
 finds u sp (verdict.Unproved at cause) v k = v
 finds u sp (verdict.Shared m) v k = v
 
 -- a verdict that was found by an equation
-pub finds_by : (u : Setup) (sp : Span) (found : Verdict) (r : Result (List Row) Refusal) → r ≡ table_or found → IsVerdict u sp found → VerdictHolds u sp found → IsTableVerdict u sp r
-finds_by u sp found r is v k = subst (λ (x : Result (List Row) Refusal). IsTableVerdict u sp x) (sym is) (finds u sp found v k)
+pub finds_by : (u : Setup) (sp : Span) (found : Verdict) (r : Result FollowedRows Refusal) → r ≡ table_or found → IsVerdict u sp found → VerdictHolds u sp found → IsTableVerdict u sp r
+finds_by u sp found r is v k = subst (λ (x : Result FollowedRows Refusal). IsTableVerdict u sp x) (sym is) (finds u sp found v k)
 
--- the table that was found is written
-pub proved_tells : (u : Setup) (at : ℕ) (sp : Span) (rows : List Row) (before after : Output) (r : Result (Unit {0}) Fault) → IsTableVerdict u sp (Ok rows) → Writes before after (table_text rows) r
-    → TellsTable u at sp before after r
-proved_tells u at sp rows before after r h w = written_tells u at sp rows before after r h.0 h.1.0 h.1.1 w
+-- the text of the table of a provable span was told, or why not
+text_tells : (u : Setup) (at : ℕ) (sp : Span) (rows : List Row) (before after : Output) (r : Result (Unit {0}) Fault) → IsProvableAlone u sp → HoldsInEveryRun u sp → IsGoodLeast u sp rows
+    → TellsText before after (table_text rows) r → TellsTable u at sp before after r
+text_tells u at sp rows before after r p k g (inl w) = written_tells u at sp rows before after r p k g w.0 w.1
+text_tells u at sp rows before after r p k g (inr long) =
+    subst (λ (x : Result (Unit {0}) Fault). TellsTable u at sp before after x) (sym long.1.0) ((p, (rows, g, long.0)), long.1.1)
 
-pub proved_tells_at : (u : Setup) (at : ℕ) (sp : Span) (found : Result (List Row) Refusal) (rows : List Row) (before after : Output) (r : Result (Unit {0}) Fault) → found ≡ Ok rows → IsTableVerdict u sp found
-    → Writes before after (table_text rows) r → TellsTable u at sp before after r
-proved_tells_at u at sp found rows before after r is h w =
-    proved_tells u at sp rows before after r (subst (λ (x : Result (List Row) Refusal). IsTableVerdict u sp x) is h) w
+-- the table that was found is told
+pub proved_tells_at : (u : Setup) (at : ℕ) (sp : Span) (found : Result FollowedRows Refusal) (table : FollowedRows) (before after : Output) (r : Result (Unit {0}) Fault) → found ≡ Ok table → IsTableVerdict u sp found
+    → TellsText before after (table_text table.rows) r → TellsTable u at sp before after r
+proved_tells_at u at sp found table before after r is h w =
+    let v = subst (λ (x : Result FollowedRows Refusal). IsTableVerdict u sp x) is h in
+    text_tells u at sp table.rows before after r v.0 v.1.0 v.1.1 w
 
-pub refused_tells_at : (u : Setup) (at : ℕ) (sp : Span) (found : Result (List Row) Refusal) (refusal : Refusal) (out : Output) (e : Fault) → found ≡ Err refusal → IsTableVerdict u sp found → IsRefusalOf at sp refusal e
+pub refused_tells_at : (u : Setup) (at : ℕ) (sp : Span) (found : Result FollowedRows Refusal) (refusal : Refusal) (out : Output) (e : Fault) → found ≡ Err refusal → IsTableVerdict u sp found → IsRefusalOf at sp refusal e
     → TellsTable u at sp out out (Err e)
 refused_tells_at u at sp found refusal out e is h i =
-    refused_tells u at sp out refusal e (subst (λ (x : Result (List Row) Refusal). IsTableVerdict u sp x) is h) i
+    refused_tells u at sp out refusal e (subst (λ (x : Result FollowedRows Refusal). IsTableVerdict u sp x) is h) i

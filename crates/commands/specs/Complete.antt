@@ -1,6 +1,7 @@
 -- Completeness: where the words are taken, the outside is quiet and memory is there, the files alone decide how a call ends.
-use Rattle.std.specs.Prelude.{◌≡◌, ◌≢◌, ℕ, Option, Some, None, List}
+use Rattle.std.specs.Prelude.{◌≡◌, ◌≢◌, ◌⊎◌, ℕ, Option, Some, None, List}
 use Rattle.pio_edge.specs.Edge.{Files, Rose, with_bytes}
+use Rattle.fault_lines.specs.declared.fault.File.TheVariants.{Table}
 use Rattle.fault_lines.specs.declared.fault.Fault.{Fault}
 use Rattle.fault_lines.specs.declared.fault.Fault.TheVariants as fault
 use Rattle.clap.specs.Walk.{Text}
@@ -18,7 +19,7 @@ use Rattle.stages.specs.Judged.{Judged, right, wrong}
 use Rattle.stages.specs.Stages.{HasSuch}
 use Rattle.stages.specs.Spans.{IsProvableAlone, AreProvable, IsRefused, IsFirstRefused}
 use Rattle.commands.specs.Needs.{Need, IsNamedAt, IsProvedBy, nothing, all_spans, both_spans, one_span, by_table}
-use Rattle.commands.specs.Tasks.{Task, need_of, judge, HasText}
+use Rattle.commands.specs.Tasks.{Task, need_of, judge, HasText, HasLongText}
 use Rattle.commands.specs.Outside.{Call}
 use Rattle.commands.specs.Wanted.{wanted}
 
@@ -33,6 +34,10 @@ pub record Quiet (words : List Text) (c : Call) (f : Files) (found : Option Faul
 -- no fault and the whole text
 abbrev pub IsDone : Call → Task → Option Fault → Type 0
 IsDone c task found = (found ≡ None) × HasText task (λ text. c.out_after.taken ≡ with_bytes c.out_before.taken text)
+
+-- the text is longer than a table file may be, which is the fault
+abbrev pub IsTooLong : Task → Option Fault → Type 0
+IsTooLong task found = (found ≡ Some (fault.TooLong Table)) × HasLongText task
 
 -- the fault of the first span that isn't provable
 pub record IsUndone (u : Setup) (found : Option Fault) : Type 0 where
@@ -70,9 +75,9 @@ pub record IsRefusalTold (found : Option Fault) (u : Setup) (sp : Span) : Type 0
   pub why : IsRefused u sp refusal
   pub fault : found ≡ Some (fault.Unproved place sp.name refusal)
 
--- where the span is provable, all is done; where it isn't, the fault says why
+-- where the span is provable, all is done, or its table is too long; where it isn't, the fault says why
 pub record EndsBySpan (c : Call) (task : Task) (found : Option Fault) (u : Setup) (sp : Span) : Type 0 where
-  pub provable : IsProvableAlone u sp → IsDone c task found
+  pub provable : IsProvableAlone u sp → IsDone c task found ⊎ IsTooLong task found
   pub unprovable : (IsProvableAlone u sp → ⊥) → IsRefusalTold found u sp
 
 -- the fault has the span's place and name, and the first flaw of a table

@@ -1,7 +1,7 @@
 -- What a call has done that ended with status 0: a record for each command, over known files. Each is a law from `EndsAs`.
 --   Passed          the words want this command, its files are known, and the call ended without a fault
 --   AsmPassed ..    what the command then read, wrote, and what holds of it
-use Rattle.std.specs.Prelude.{◌≡◌, ℕ, Bool, Option, Some, None, is_some, List, map, Result}
+use Rattle.std.specs.Prelude.{◌≡◌, ℕ, ◌≤◌, Bool, Option, Some, None, is_some, List, length, map, Result}
 use Rattle.std.specs.FinMap.{get}
 use Rattle.std.specs.List.{flat_map}
 use Rattle.clap.specs.Walk.{Text}
@@ -33,10 +33,10 @@ use Rattle.verdict_lines.specs.declared.refusal.Finding.{Finding}
 use Rattle.verdict_lines.specs.declared.refusal.Refusal.{Refusal}
 use Rattle.table_files.specs.Rows.{table_text}
 use Rattle.table_files.specs.FlawLines.{rechecked_line}
-use Rattle.fault_lines.specs.declared.fault.File.TheVariants.{Send}
+use Rattle.fault_lines.specs.declared.fault.File.TheVariants.{Send, Table}
 use Rattle.command_line.specs.Words.{Asked}
 use Rattle.stages.specs.declared.pair.TwoBlocks.{TwoBlocks}
-use Rattle.stages.specs.Judged.{right, read_at, source_at, words_at, prepared_at, span_at, recheck_at, pair_at}
+use Rattle.stages.specs.Judged.{right, limit, read_at, source_at, words_at, prepared_at, span_at, recheck_at, pair_at}
 use Rattle.stages.specs.Pairs.{AllHoldInPairs}
 use Rattle.stages.specs.Spans.{IsProvableAlone, AreProvable, AllHold, AreVerdicts, verdict_text}
 use Rattle.commands.specs.Outside.{Call, SameShelf}
@@ -87,7 +87,8 @@ pub record CheckPassed (c : Call) (files : Files) (source : List ℕ) (config : 
   pub provable : AreProvable setup
   pub holds : AllHold setup
 
--- `table`: this is the first span of the name. It wrote the least closed table of it, which is good, and the span holds in every run.
+-- `table`: this is the first span of the name. It wrote the least closed table of it, which is good and fits a table file, and the span
+-- holds in every run.
 pub record TablePassed (c : Call) (files : Files) (source : List ℕ) (config : Option (List ℕ)) (name : List ℕ) : Type 0 where
   pub setup : Setup
   pub span : Span
@@ -95,6 +96,7 @@ pub record TablePassed (c : Call) (files : Files) (source : List ℕ) (config : 
   pub rows : List Row
   pub least : IsGoodLeast setup span rows
   pub wrote : Writing c (table_text rows)
+  pub fits : length (table_text rows) ≤ limit Table
   pub provable : IsProvableAlone setup span
   pub holds : HoldsInEveryRun setup span
 

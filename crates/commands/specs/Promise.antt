@@ -4,6 +4,7 @@ use Rattle.pio_edge.specs.Count.{failed_at}
 use Rattle.pio_edge.specs.Edge.{Rose, with_bytes, TakesPrefix}
 use Rattle.pio_edge.specs.Fetched.{Fetched}
 use Rattle.fault_lines.specs.declared.fault.File.{File}
+use Rattle.fault_lines.specs.declared.fault.File.TheVariants as file
 use Rattle.fault_lines.specs.declared.fault.Fault.{Fault}
 use Rattle.fault_lines.specs.declared.fault.Fault.TheVariants as fault
 use Rattle.span_verdict.specs.declared.table_flaw.Flaw.{Flaw}
@@ -11,10 +12,10 @@ use Rattle.verdict_lines.specs.declared.refusal.Refusal.{Refusal}
 use Rattle.command_line.specs.Words.{Asked, run, check, table, recheck, pair}
 use Rattle.stages.specs.Judged.{wrong}
 use Rattle.stages.specs.Stages.{HasSuch}
-use Rattle.stages.specs.Fetching.{Slot, fetches_of, AsksUntil}
+use Rattle.stages.specs.Fetching.{Slot, fetches_of, run_slots, AsksUntil}
 use Rattle.commands.specs.Outside.{Call, Untouched, SameShelf, SameOut}
 use Rattle.commands.specs.Needs.{IsMet, AllRunsHold, IsRefusedBy, IsSecondRefusedBy, IsFlawed}
-use Rattle.commands.specs.Tasks.{judge, ComesTo, HasText, need_of, AskedBefore, slots_of, file_in, reaches}
+use Rattle.commands.specs.Tasks.{judge, ComesTo, HasText, HasLongText, need_of, AskedBefore, slots_of, file_in, reaches}
 
 -- the output took exactly the text, and handed all of it on
 pub record WritesText (c : Call) (a : Asked) : Type 0 where
@@ -74,6 +75,17 @@ pub record Faulty (c : Call) (a : Asked) (e : Fault) : Type 0 where
   pub judged : IfSome c.files (λ f. judge f a ≡ wrong e)
   pub untouched : Untouched c
 
+-- the text is longer than a file of its kind may be; each span that is asked is provable, nothing was written, and nothing failed
+pub record LongText (c : Call) (a : Asked) : Type 0 where
+  pub text : ComesTo c a HasLongText
+  pub spans : ComesTo c a (λ task. IsMet (need_of task))
+  pub untouched : Untouched c
+
+-- A file is too long: one that the command reads, or the table that `table` would write, for it reads none.
+abbrev pub EndsTooLong : Asked → Call → File → Type 0
+EndsTooLong (table source config name) c file.Table = LongText c (table source config name)
+EndsTooLong a c role = Faulty c a (fault.TooLong role)
+
 -- how a call ends whose words ask for this, or for nothing
 abbrev pub Ends : Option Asked → Call → Option Fault → Type 0
 Ends (Some a) c None = Passes c a
@@ -84,6 +96,7 @@ Ends (Some a) c (Some (fault.Unproved place name refusal)) = RefusesSpan c a pla
 Ends (Some a) c (Some (fault.SecondUnproved place name refusal)) = RefusesSecond c a place name refusal
 Ends (Some a) c (Some (fault.Flaw place name flaw)) = Flawed c a place name flaw
 Ends (Some a) c (Some fault.Out) = OutFails c a
+Ends (Some a) c (Some (fault.TooLong role)) = EndsTooLong a c role
 Ends None c found = ⊥
 Ends (Some a) c (Some fault.Usage) = ⊥
 Ends (Some a) c (Some e) = Faulty c a e
@@ -109,12 +122,18 @@ abbrev pub AsksFiles : List Slot → (before after : List Fetched) → Result (U
 AsksFiles slots before after (Ok _) = after ≡ before ++ fetches_of slots
 AsksFiles slots before after (Err e) = AsksTo slots before after e
 
+-- the same of `table`, which has asked for all of them too where its text is too long
+abbrev pub TableAsks : List Slot → (before after : List Fetched) → Result (Unit {0}) Fault → Type 0
+TableAsks slots before after (Err (fault.TooLong file.Table)) = after ≡ before ++ fetches_of slots
+TableAsks slots before after result = AsksFiles slots before after result
+
 -- a command that ends so has asked for its files in the order of reading: all, or those up to the one at fault
 abbrev pub CommandAsks : Asked → (before after : List Fetched) → Result (Unit {0}) Fault → Type 0
+CommandAsks (table source config name) before after result = TableAsks (run_slots source config None) before after result
 CommandAsks a before after result = AsksFiles (slots_of a) before after result
 
 -- the same of a call whose words ask for this, or for nothing: then it asks for no file
 abbrev pub AsksFor : Option Asked → (before after : List Fetched) → Option Fault → Type 0
 AsksFor None before after found = after ≡ before
 AsksFor (Some a) before after None = after ≡ before ++ fetches_of (slots_of a)
-AsksFor (Some a) before after (Some e) = AsksTo (slots_of a) before after e
+AsksFor (Some a) before after (Some e) = CommandAsks a before after (Err e)

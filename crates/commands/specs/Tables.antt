@@ -1,13 +1,14 @@
 -- What it means that a table is written, and that a table was rechecked.
 --   TellsTable    the text of the least closed table was taken and handed on, or why not
 --   TellsRecheck  the line of a table that proves a span was taken and handed on, or why not
-use Rattle.std.specs.Prelude.{◌≡◌, ◌⊎◌, ℕ, List, Result, Ok, Err}
+use Rattle.std.specs.Prelude.{◌≡◌, ◌⊎◌, ℕ, ◌<◌, ◌≤◌, List, Result, Ok, Err, length}
 use Rattle.pin_matrix.specs.declared.setup.Setup.{Setup}
 use Rattle.pin_matrix.specs.declared.span.Span.{Span}
 use Rattle.span_bounds.specs.declared.row.Row.{Row}
 use Rattle.span_check.specs.Proved.{HoldsInEveryRun}
 use Rattle.span_verdict.specs.declared.table_flaw.Flaw.{Flaw}
 use Rattle.span_bounds.specs.Answers.{IsGoodLeast}
+use Rattle.span_bounds.specs.Tables.{FollowedRows}
 use Rattle.span_verdict.specs.declared.verdict.Verdict.{Verdict}
 use Rattle.span_verdict.specs.declared.verdict.Verdict.TheVariants as verdict
 use Rattle.verdict_lines.specs.declared.refusal.Refusal.{Refusal}
@@ -16,20 +17,22 @@ use Rattle.fault_lines.specs.declared.fault.Fault.{Fault}
 use Rattle.fault_lines.specs.declared.fault.Fault.TheVariants as fault
 use Rattle.fault_lines.specs.Output.{Output}
 use Rattle.table_files.specs.FlawLines.{rechecked_line}
+use Rattle.fault_lines.specs.declared.fault.File.TheVariants as file
+use Rattle.stages.specs.Judged.{limit}
 use Rattle.stages.specs.Spans.{IsProvableAlone, IsRefused}
 use Rattle.commands.specs.Needs.{HasFlaw, IsProvedBy, IsSharedBy}
-use Rattle.commands.specs.Tasks.{HasTable}
-use Rattle.commands.specs.Written.{HasTaken, TakesPart}
+use Rattle.commands.specs.Tasks.{HasShortTable, HasLongTable}
+use Rattle.commands.specs.Written.{HasTaken, TakesPart, Writes}
 
 -- the table of a proved span, or why it isn't proved
-abbrev pub table_or : Verdict → Result (List Row) Refusal
-table_or (verdict.Proved rows opens closes) = Ok rows
+abbrev pub table_or : Verdict → Result FollowedRows Refusal
+table_or (verdict.Proved table opens closes) = Ok table
 table_or (verdict.Unproved k cause) = Err (refusal.Unproved k cause)
 table_or (verdict.Shared m) = Err (refusal.Shared m)
 
 -- the span is provable and holds in every run, and these are the rows of its least closed table; or this is why it isn't
-abbrev pub IsTableVerdict : Setup → Span → Result (List Row) Refusal → Type 0
-IsTableVerdict u sp (Ok rows) = IsProvableAlone u sp × (HoldsInEveryRun u sp × IsGoodLeast u sp rows)
+abbrev pub IsTableVerdict : Setup → Span → Result FollowedRows Refusal → Type 0
+IsTableVerdict u sp (Ok table) = IsProvableAlone u sp × (HoldsInEveryRun u sp × IsGoodLeast u sp table.rows)
 IsTableVerdict u sp (Err why) = IsRefused u sp why
 
 -- the fault is that of the span at this place, which is refused, or out of memory
@@ -44,14 +47,21 @@ IsFlawOf place sp flaw e = (e ≡ fault.Flaw place sp.name flaw) ⊎ (e ≡ faul
 abbrev pub IsTold : (at : ℕ) → Span → (place : ℕ) → (name : List ℕ) → Type 0
 IsTold at sp place name = (place ≡ at) × (sp.name ≡ name)
 
+-- a text that is no longer than a table file may be was written, or why not; a longer one was told, and nothing is written
+abbrev pub TellsText : Output → Output → List ℕ → Result (Unit {0}) Fault → Type 0
+TellsText before after text result =
+    ((length text ≤ limit file.Table) × Writes before after text result)
+    ⊎ ((limit file.Table < length text) × ((result ≡ Err (fault.TooLong file.Table)) × (after ≡ before)))
+
 -- The span at this place is provable and holds in every run, and the text of its least closed table was taken and
 -- handed on, or a first part of it where the output failed; or the span isn't provable, and this is why; or memory ran
--- out. Of the last two nothing is written.
+-- out; or the text is longer than a table file may be. Of the last three nothing is written.
 abbrev pub TellsTable : Setup → (at : ℕ) → Span → Output → Output → Result (Unit {0}) Fault → Type 0
-TellsTable u at sp before after (Ok _) = IsProvableAlone u sp × (HoldsInEveryRun u sp × HasTable u sp (λ text. HasTaken before text after))
-TellsTable u at sp before after (Err fault.Out) = IsProvableAlone u sp × HasTable u sp (λ text. TakesPart before text after)
+TellsTable u at sp before after (Ok _) = IsProvableAlone u sp × (HoldsInEveryRun u sp × HasShortTable u sp (λ text. HasTaken before text after))
+TellsTable u at sp before after (Err fault.Out) = IsProvableAlone u sp × HasShortTable u sp (λ text. TakesPart before text after)
 TellsTable u at sp before after (Err fault.Memory) = after ≡ before
 TellsTable u at sp before after (Err (fault.Unproved place name why)) = (IsTold at sp place name × IsRefused u sp why) × (after ≡ before)
+TellsTable u at sp before after (Err (fault.TooLong file.Table)) = (IsProvableAlone u sp × HasLongTable u sp) × (after ≡ before)
 TellsTable u at sp before after (Err e) = ⊥
 
 -- The table proves the span at this place, which holds in every run, and its line was taken and handed on, or a first

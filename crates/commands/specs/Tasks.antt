@@ -4,7 +4,7 @@
 --   HasText     the text of a task is such; ComesTo: the known files give a task that is such
 --   need_of     what a task needs of spans, besides its text
 --   inputs_of   what a command reads: its files in order, and when it comes to each; file_in: which one in a role
-use Rattle.std.specs.Prelude.{ℕ, Bool, true, Option, Some, None, is_some, IfSome, List, [], ◌++◌, map, if◌then◌else◌}
+use Rattle.std.specs.Prelude.{ℕ, ◌<◌, ◌≤◌, Bool, true, Option, Some, None, is_some, IfSome, List, [], ◌++◌, length, map, if◌then◌else◌}
 use Rattle.std.specs.FinMap.{get}
 use Rattle.std.specs.List.{flat_map}
 use Rattle.pio_edge.specs.Edge.{Files}
@@ -13,8 +13,8 @@ use Rattle.fault_lines.specs.declared.fault.File.TheVariants.{Source, Words, Tab
 use Rattle.vcd_trace.specs.InsideText.{inside_text}
 use Rattle.vcd_trace.specs.TwinText.{twin_text}
 use Rattle.vcd_trace.specs.VcdText.{vcd_text}
-use Rattle.span_meter.specs.Events.{events_in, is_selective, marks}
-use Rattle.span_meter.specs.Spoken.{spoken}
+use Rattle.span_meter.specs.Assumed.{spoken_seen}
+use Rattle.span_meter.specs.Events.{events_in, is_selective}
 use Rattle.span_meter.specs.Measured.{ends_in, measured, pins_in, seen_of}
 use Rattle.span_meter.specs.SeenText.{seen_line}
 use Rattle.span_meter.specs.declared.seen.SeenDistances.{SeenDistances}
@@ -41,7 +41,7 @@ use Rattle.word_file.specs.Listing.{word_lines, rule_for}
 use Rattle.block_shares.specs.Report.{shares_text}
 use Rattle.drawn_load.specs.Summaries.{summary_of, summary_text}
 use Rattle.stages.specs.Spans.{HasVerdicts}
-use Rattle.stages.specs.Judged.{Judged, right, and_then, IfRight, source_at, words_at, prepared_at, span_at, recheck_at, read_at, pair_at}
+use Rattle.stages.specs.Judged.{Judged, right, and_then, IfRight, limit, source_at, words_at, prepared_at, span_at, recheck_at, read_at, pair_at}
 use Rattle.stages.specs.Roles.{run_reaches, recheck_reaches, pair_reaches}
 use Rattle.stages.specs.Fetching.{Slot, name_in, one_slot, run_slots, pair_slots}
 use Rattle.commands.specs.Outside.{Call}
@@ -76,11 +76,11 @@ unfoldable pub inspected_text : Setup → List Line → ℕ → List ℕ
 inspected_text s lines clocks = inside_text (map is_some s.machines) (insides (first_run s) lines clocks)
 
 -- What a span measures in so many clocks from a start, with the lines of a stimulus: every pair of its edges, or those that it speaks
--- of where it speaks not of every one. Before clock 0 the pins are the start's.
+-- of where it speaks not of every one, up to where X or Y isn't as it assumes. Before clock 0 the pins are the start's.
 abbrev pub seen_in : Run → Span → List Line → ℕ → SeenDistances
 seen_in start sp lines clocks =
     if is_selective sp
-    then seen_of (spoken (marks (events_in sp) 0 (pins_in start.state) (conducts start lines clocks)))
+    then spoken_seen (events_in sp) (pins_in start.state) (conducts start lines clocks)
     else seen_of (measured (ends_in sp) (pins_in start.state) (samples start lines clocks))
 
 -- the line of what each span measures, in order
@@ -133,14 +133,27 @@ ComesTo c a P = IfSome c.files (λ f. IfRight (judge f a) P)
 abbrev pub HasTable : Setup → Span → (List ℕ → Type 0) → Type 0
 HasTable u sp P = (rows : List Row) × IsGoodLeast u sp rows × P (table_text rows)
 
+-- the same of a text that is no longer than a table file may be
+abbrev pub HasShortTable : Setup → Span → (List ℕ → Type 0) → Type 0
+HasShortTable u sp P = HasTable u sp (λ text. (length text ≤ limit Table) × P text)
+
+-- the text of the least closed table of a span, which is good, is longer than a table file may be
+abbrev pub HasLongTable : Setup → Span → Type 0
+HasLongTable u sp = HasTable u sp (λ text. limit Table < length text)
+
 -- the text that a task writes is such
 abbrev pub HasText : Task → (List ℕ → Type 0) → Type 0
 HasText (listing text) P = P text
 HasText (trace u text) P = P text
 HasText (twin_trace s t text) P = P text
 HasText (verdicts u) P = HasVerdicts u P
-HasText (tabled u sp) P = HasTable u sp P
+HasText (tabled u sp) P = HasShortTable u sp P
 HasText (rechecked u sp rows) P = P (rechecked_line sp.name)
+
+-- the text of a task is longer than a file of its kind may be: only `table` writes what a command reads
+abbrev pub HasLongText : Task → Type 0
+HasLongText (tabled u sp) = HasLongTable u sp
+HasLongText task = ⊥
 
 -- what a task needs, besides its text
 abbrev pub need_of : Task → Need

@@ -1,6 +1,7 @@
 //! Laws of what commands write and of the clocks that they work out, on functions that do nothing.
-ghost use Rattle.std.specs.Prelude.{◌≡◌, ◌+◌, ◌*◌, ◌<◌, ◌≤◌, ℕ, List, Ok, Option, length};
+ghost use Rattle.std.specs.Prelude.{◌≡◌, ◌+◌, ◌*◌, ◌^◌, ◌<◌, ◌≤◌, ℕ, List, Ok, Option, length};
 ghost use Rattle.pio_edge.specs.Edge.{Files};
+ghost use Rattle.pin_matrix.specs.Followed.{followed};
 ghost use Rattle.pin_matrix.specs.declared.setup.Setup.{Setup};
 ghost use Rattle.pin_matrix.specs.declared.span.Span.{Span};
 ghost use Rattle.block_core.specs.Block.{first_run};
@@ -23,8 +24,8 @@ use table_files::{a_least_table_is_told, a_table_is_read_back};
 
 /// What `table` writes of a span is a table file whose table is closed and good, as `recheck` asks of it.
 pub fn a_written_table_is_a_proof()
-    ensures { (u : Setup) (sp : Span) (rows : List Row) → IsGoodLeast u sp rows
-        → (table_of (table_text rows) ≡ Ok rows) × (IsClosed u sp rows × IsGood u sp rows) }
+    ensures { (u : Setup) (sp : Span) (rows : List Row) → (followed sp).x < 2 ^ 16 → (followed sp).y < 2 ^ 16 → IsGoodLeast u sp rows
+        → (table_of (followed sp) (table_text rows) ≡ Ok rows) × (IsClosed u sp rows × IsGood u sp rows) }
 {
     a_least_table_is_told();
     a_table_is_read_back();

@@ -1,6 +1,7 @@
 //! The command `recheck`: whether the table of a file proves a span, without deriving one.
 ghost use Rattle.std.specs.Prelude.{◌≡◌, ℕ, IfSome, IsSome, List, MatchOption, None, Option, Some, option_map, slice_index_or};
 ghost use Rattle.command_line.specs.Words.{recheck as recheck_asked};
+ghost use Rattle.pin_matrix.specs.Followed.{followed};
 ghost use Rattle.table_files.specs.FlawLines.{rechecked_line};
 ghost use Rattle.span_check.specs.Proved.{HoldsInEveryRun};
 ghost use Rattle.span_verdict.specs.Sharing.{IsUnshared};
@@ -75,7 +76,7 @@ fn recheck_span<F: Shelf, O: Sink>(
         (F.fetched shelf.old) (F.fetched shelf.new) result }
     ensures same { F.holds shelf.new ≡ F.holds shelf.old }
 {
-    let rows = fetch_table(alloc, shelf, table)?;
+    let rows = fetch_table(alloc, shelf, table, span.assume.follow())?;
     tell_recheck(alloc, setup, place, span, &rows, out)
 }
 
@@ -88,8 +89,9 @@ fn tell_recheck<O: Sink>(
     table: &Table,
     out: &mut O,
 ) -> Result<(), Fault>
-    requires { IsSome (slice_index_or setup.now.machines span.now.machine None) }
-    ensures { TellsRecheck setup.now place span.now table.now
+    requires configured { IsSome (slice_index_or setup.now.machines span.now.machine None) }
+    requires follow { table.now.follow ≡ followed span.now }
+    ensures { TellsRecheck setup.now place span.now table.now.rows
         (output_by O.taken O.waiting O.faults out.old) (output_by O.taken O.waiting O.faults out.new) result }
 {
     match shared_by(setup, span) {
@@ -109,7 +111,8 @@ fn tell_flaw<O: Sink>(
 ) -> Result<(), Fault>
     requires configured { IsSome (slice_index_or setup.now.machines span.now.machine None) }
     requires alone { IsUnshared setup.now span.now }
-    ensures { TellsRecheck setup.now place span.now table.now
+    requires follow { table.now.follow ≡ followed span.now }
+    ensures { TellsRecheck setup.now place span.now table.now.rows
         (output_by O.taken O.waiting O.faults out.old) (output_by O.taken O.waiting O.faults out.new) result }
 {
     match first_flaw(setup, span, table) {
@@ -122,8 +125,9 @@ fn tell_flaw<O: Sink>(
 fn first_flaw(setup: &Setup, span: &Span, table: &Table) -> Option<Flaw>
     requires configured { IsSome (slice_index_or setup.now.machines span.now.machine None) }
     requires alone { IsUnshared setup.now span.now }
-    ensures { MatchOption result (IsProvedBy setup.now span.now table.now × HoldsInEveryRun setup.now span.now)
-        (λ found. HasFlaw setup.now span.now table.now found) }
+    requires follow { table.now.follow ≡ followed span.now }
+    ensures { MatchOption result (IsProvedBy setup.now span.now table.now.rows × HoldsInEveryRun setup.now span.now)
+        (λ found. HasFlaw setup.now span.now table.now.rows found) }
 {
     a_provable_span_holds_in_every_run();
     match flaw(table, setup, span) {

@@ -6,23 +6,23 @@ ghost use Rattle.commands.specs.Outside.{call_by, output_by};
 ghost use Rattle.commands.specs.Promise.{CommandAsks, CommandEnds};
 ghost use Rattle.commands.specs.Written.{SinkWrites};
 ghost use Rattle.commands.specs.Tables as spec;
-ghost use Rattle.commands.specs.Tables.{IsTableVerdict, TellsTable};
+ghost use Rattle.commands.specs.Tables.{IsTableVerdict, TellsTable, TellsText};
 
 use crate::handing::hand_on;
 use crate::span_fault::unproved;
-use fault_lines::Fault;
+use fault_lines::{Fault, File};
 use pin_matrix::{Setup, Span};
 use pio_edge::{Shelf, Sink};
 use span_bounds::Table;
 use span_check::check;
 use span_verdict::Verdict;
-use stages::{prepare_setup, span_named};
+use stages::{limit_of, prepare_setup, span_named};
 use std::alloc::{AllocError, Global};
-use table_files::put_table;
+use table_files::{put_table, text_len};
 use verdict_lines::Refusal;
 
-/// Writes the table of the first span of this name, the least closed one, where the span is provable; else nothing. All
-/// memory is taken before the first piece is put.
+/// Writes the table of the first span of this name, the least closed one, where the span is provable and the text is no
+/// longer than a table file may be; else nothing. All memory is taken before the first piece is put.
 ///
 /// With status 0: `TablePassed` (`specs/Passed.antt`).
 pub fn table<F: Shelf, O: Sink>(
@@ -46,7 +46,8 @@ pub fn table<F: Shelf, O: Sink>(
     }
 }
 
-/// Writes the table of the span at this place, whose machine is configured, where it is provable.
+/// Writes the table of the span at this place, whose machine is configured, where it is provable and no longer than a
+/// table file may be.
 fn tell_table<O: Sink>(
     alloc: Global,
     setup: &Setup,
@@ -60,7 +61,7 @@ fn tell_table<O: Sink>(
 {
     let found = found_table(alloc, setup, span)?;
     match found {
-        Ok(table) => write_table(out, &table),
+        Ok(table) => tell_text(out, &table),
         Err(refusal) => Err(unproved(alloc, place, span, refusal)),
     }
 }
@@ -89,10 +90,22 @@ fn table_or(verdict: Verdict) -> Result<Table, Refusal>
     }
 }
 
+/// Writes the text of a table that is no longer than a table file may be.
+fn tell_text<O: Sink>(out: &mut O, table: &Table) -> Result<(), Fault>
+    ensures { TellsText (output_by O.taken O.waiting O.faults out.old) (output_by O.taken O.waiting O.faults out.new)
+        (table_text table.now.rows) result }
+{
+    if text_len(table) > limit_of(File::Table) {
+        Err(Fault::TooLong(File::Table))
+    } else {
+        write_table(out, table)
+    }
+}
+
 /// Writes the text of a table, and hands on what the output still keeps.
 fn write_table<O: Sink>(out: &mut O, table: &Table) -> Result<(), Fault>
     ensures { SinkWrites O.taken O.waiting O.faults out.old out.new
-        (table_text table.now) result }
+        (table_text table.now.rows) result }
 {
     let put = put_table(out, table);
     hand_on(out, put)

@@ -1,6 +1,6 @@
 //! Setups as short texts.
 use block_config::OwningSetup;
-use pin_matrix::{MachineSetup, PinSignal, Setup, Span, SpanUnit};
+use pin_matrix::{Assumption, MachineSetup, PinSignal, Range, Setup, Span, SpanUnit};
 use std::alloc::AllocError;
 
 /// Adds what a setup says, in one line: the memory's words that aren't 0 by their address, the machines, the pins and the
@@ -98,7 +98,25 @@ fn tell_span(span: &Span, text: &mut String) -> Result<(), AllocError> {
     text.push_str("]")?;
     tell_unsaid(span, text)?;
     tell_named(" from [", span.from_at.as_slice(), text)?;
-    tell_named(" to [", span.to_at.as_slice(), text)
+    tell_named(" to [", span.to_at.as_slice(), text)?;
+    for assumption in span.assume.as_slice() {
+        tell_assumption(assumption, text)?;
+    }
+    Ok(())
+}
+
+/// Adds an assumption: the address, and the ranges that it has.
+fn tell_assumption(assumption: &Assumption, text: &mut String) -> Result<(), AllocError> {
+    write!(text, " assume {}", assumption.address)?;
+    tell_range(" x ", assumption.x, text)?;
+    tell_range(" y ", assumption.y, text)
+}
+
+fn tell_range(front: &str, range: Option<Range>, text: &mut String) -> Result<(), AllocError> {
+    match range {
+        Some(range) => write!(text, "{front}{}-{}", range.lo, range.hi),
+        None => Ok(()),
+    }
 }
 
 /// Adds of which from-edges a span says nothing, where there are such.

@@ -7,7 +7,8 @@ ghost use Rattle.pin_matrix.specs.Spans as spec;
 use crate::lines::up_to;
 use crate::setup::NO_SIDE;
 use pin_matrix::{
-    Addresses, MachineSetup, Mapping, PinSignal, Setup, Span, SpanUnit, Spans, is_span_name,
+    Addresses, Assumptions, MachineSetup, Mapping, PinSignal, Setup, Span, SpanUnit, Spans,
+    is_span_name,
 };
 use pio_encode::Name;
 use std::alloc::{AllocError, Global};
@@ -88,6 +89,7 @@ fn in_clocks(alloc: Global, name: Name) -> Span
         without: Addresses::empty(alloc),
         from_at: Addresses::empty(alloc),
         to_at: Addresses::empty(alloc),
+        assume: Assumptions::empty(alloc),
     }
 }
 
@@ -143,6 +145,7 @@ fn in_ticks(alloc: Global, name: Name, stalls: Addresses) -> Span
         without: Addresses::empty(alloc),
         from_at: Addresses::empty(alloc),
         to_at: Addresses::empty(alloc),
+        assume: Assumptions::empty(alloc),
     }
 }
 

@@ -5,3 +5,5 @@ pub mod Merging
 pub mod PadLaws
 pub mod Placed
 pub mod Greatest
+pub mod Raising
+pub mod AssumeRows

@@ -2,6 +2,7 @@
 //! setup.
 #![tactic(auto)]
 
+mod assume;
 mod last_write;
 mod laws;
 mod level;
@@ -16,6 +17,7 @@ mod span_name;
 mod sync;
 mod writes;
 
+pub use assume::{Assumption, Assumptions, Follow, Range, are_few_pairs};
 pub use last_write::{merge, merge4};
 pub use laws::{
     each_mapped_pin, each_pad, each_pin_from, no_write_changes_nothing, settled_pads_are_seen,

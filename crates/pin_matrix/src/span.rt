@@ -4,6 +4,7 @@ ghost use Rattle.std.specs.Option.{ForSome};
 ghost use Rattle.pin_matrix.specs.Spans as spec;
 ghost use Rattle.pin_matrix.specs.Spans.{is_in_ticks, is_span_name};
 
+use crate::assume::Assumptions;
 use pio_encode::Name;
 use std::alloc::Global;
 use std::marker::Model;
@@ -136,6 +137,8 @@ pub struct Span {
     pub from_at: Addresses,
     /// As of the from-event.
     pub to_at: Addresses,
+    /// Nothing is said once X or Y isn't as assumed.
+    pub assume: Assumptions,
     pub ghost named: { IsTrue (is_span_name name) },
     pub ghost machine_in_block: { machine < 4 },
     pub ghost from_pin_is_a_pin: { from_pin < 32 },

@@ -122,6 +122,7 @@ span_with k f = record {
   without = k.without;
   from_at = k.from_at;
   to_at = k.to_at;
+  assume = k.assume;
   named = f.named;
   machine_in_block = f.machine_in_block;
   from_pin_is_a_pin = f.from_pin_is_a_pin;

@@ -3,6 +3,7 @@
 --   keys_of_machine, ..                what one of the types says
 use Rattle.std.specs.Prelude.{ℕ, Bool, Option, option_map, List, map}
 use Rattle.pio_encode.specs.declared.rule.SideRule.{SideRule}
+use Rattle.pin_matrix.specs.declared.assume.Assumption.{Assumption}
 use Rattle.pin_matrix.specs.declared.machine.MachineSetup.{MachineSetup}
 use Rattle.pin_matrix.specs.declared.span.PinSignal.{PinSignal}
 use Rattle.pin_matrix.specs.declared.span.SpanUnit.{SpanUnit}
@@ -62,6 +63,7 @@ pub record SpanKeys : Type 0 where
   pub without : List ℕ
   pub from_at : List ℕ
   pub to_at : List ℕ
+  pub assume : List Assumption
 
 -- what a block's setup says: its machines at their places
 pub record BlockKeys : Type 0 where
@@ -129,6 +131,7 @@ keys_of_span s = record {
   without = s.without;
   from_at = s.from_at;
   to_at = s.to_at;
+  assume = s.assume;
 }
 
 -- what a block's setup says

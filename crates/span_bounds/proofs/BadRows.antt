@@ -7,12 +7,15 @@ use Rattle.pin_matrix.specs.declared.setup.Setup.{Setup}
 use Rattle.pin_matrix.specs.declared.span.PinSignal.TheVariants.{Level}
 use Rattle.pin_matrix.specs.declared.span.Span.{Span}
 use Rattle.pin_matrix.specs.declared.span.SpanUnit.TheVariants.{Ticks}
+use Rattle.pin_matrix.specs.Assumptions.{follow_of, raised_x, raised_y}
+use Rattle.pin_matrix.specs.Followed.{followed}
 use Rattle.pin_matrix.proofs.Greatest.{of_some}
 use Rattle.span_step.specs.declared.ages.Ages.{Ages}
 use Rattle.span_step.specs.declared.ages.Ages.TheVariants.{Empty, Between}
 use Rattle.span_step.specs.declared.cause.Cause.TheVariants.{U1, U2}
 use Rattle.span_step.specs.Contexts.{Context}
 use Rattle.span_step.specs.Courses.{prompt, courses, watched}
+use Rattle.span_step.specs.Narrowing.{narrowed, narrowing_after, nexts_of, with_assumptions}
 use Rattle.span_step.specs.Outcomes.{outcomes, is_wild, may_stall}
 use Rattle.span_step.specs.Steps.{bounds_of, rules_of, visit_of, with_end, with_outcome, step_by, context_steps}
 use Rattle.span_bounds.specs.declared.entry.Entry.{Entry}
@@ -107,6 +110,7 @@ two_ticks = record {
   without = [];
   from_at = [];
   to_at = [];
+  assume = [];
   named = refl;
   machine_in_block = omega arith;
   from_pin_is_a_pin = omega arith;
@@ -128,11 +132,12 @@ high = record { address = 1; x = Some 0; y = Some 0; from = true; to = true }
 abbrev table : List Row
 table = record { context = low; ages = Empty } ∷ record { context = high; ages = Between 0 0 } ∷ []
 
-table_row : IsTable table
+table_row : IsTable (followed two_ticks) table
+unfolding two_ticks follow_of raised_x raised_y
 table_row = (refl, (refl, (refl, (refl, tt))))
 
 closed_row : IsClosed blink two_ticks table
-unfolding blink two_ticks start_context context_steps step_by with_outcome with_end visit_of rules_of bounds_of courses prompt watched outcomes is_wild may_stall reading_of act_of delay_of side_of set_at
+unfolding blink two_ticks start_context context_steps step_by with_outcome with_end visit_of rules_of bounds_of courses prompt watched outcomes is_wild may_stall reading_of act_of delay_of side_of set_at follow_of raised_x raised_y narrowing_after with_assumptions narrowed nexts_of
 closed_row = record { starts = tt; steps = (((omega arith, omega arith), tt), ((tt, tt), tt)) }
 
 -- an entry has one row
@@ -144,13 +149,13 @@ never h k = cc
 
 -- The table is closed and isn't good, and it counts: its row of the fall is bad for U2, and not for U1; that of the rise isn't bad.
 fall_row : IsBadEverywhere blink two_ticks high U1 → ⊥
-unfolding blink two_ticks start_context context_steps step_by with_outcome with_end visit_of rules_of bounds_of courses prompt watched outcomes is_wild may_stall reading_of act_of delay_of side_of set_at
+unfolding blink two_ticks start_context context_steps step_by with_outcome with_end visit_of rules_of bounds_of courses prompt watched outcomes is_wild may_stall reading_of act_of delay_of side_of set_at follow_of raised_x raised_y narrowing_after with_assumptions narrowed nexts_of
 fall_row is =
     let found = is.bad table table_row closed_row in
     never found.1.1 (subst (λ a. (context_steps blink two_ticks high a).causes.u1 ≡ false) (same_ages (Between 0 0) found.0 found.1.0) refl)
 
 rise_row : IsBadEverywhere blink two_ticks low U2 → ⊥
-unfolding blink two_ticks start_context context_steps step_by with_outcome with_end visit_of rules_of bounds_of courses prompt watched outcomes is_wild may_stall reading_of act_of delay_of side_of set_at
+unfolding blink two_ticks start_context context_steps step_by with_outcome with_end visit_of rules_of bounds_of courses prompt watched outcomes is_wild may_stall reading_of act_of delay_of side_of set_at follow_of raised_x raised_y narrowing_after with_assumptions narrowed nexts_of
 rise_row is =
     let found = is.bad table table_row closed_row in
     never found.1.1 (subst (λ a. (context_steps blink two_ticks low a).causes.u2 ≡ false) (same_ages Empty found.0 found.1.0) refl)

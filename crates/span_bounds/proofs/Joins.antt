@@ -2,6 +2,7 @@
 use Rattle.std.proofs.Common.{◌≡◌, ◌≢◌, ℕ, ◌<◌, ◌⊎◌, Bool, true, false, ◌&&◌, List, [], ◌∷◌, length, refl, sym, ◌∙◌, inl, inr, arith}
 use Rattle.std.proofs.Math.ListN.{set}
 use Rattle.std.proofs.lemmas.List.{length-set}
+use Rattle.pin_matrix.specs.Followed.{followed}
 use Rattle.pin_matrix.specs.declared.setup.Setup.{Setup}
 use Rattle.pin_matrix.specs.declared.span.Span.{Span}
 use Rattle.span_step.specs.declared.ages.Ages.{Ages}
@@ -18,8 +19,10 @@ use Rattle.span_bounds.specs.Edges.{at, nexts_at, spot, AllLie, IsClosedAt}
 use Rattle.span_bounds.specs.Reach.{IsHeldBy, Below}
 use Rattle.span_bounds.specs.Sums.{join, join_into}
 use Rattle.span_bounds.specs.Count.{EntryIn, LieBut, IsUnder}
-use Rattle.span_bounds.proofs.Nexts.{EachNext-map, same_or_not}
+use Rattle.span_bounds.proofs.Coming.{EachNext-map, same_or_not}
 use Rattle.span_bounds.proofs.Reaching.{at_same, at_other}
+use Rattle.span_bounds.specs.Numbers.{contexts_of}
+use Rattle.pin_matrix.specs.declared.assume.Follow.{Follow}
 
 inside_refl : (a : Ages) → IsInside a a
 inside_refl Empty = tt
@@ -88,7 +91,7 @@ lies_still x p a c j l h = on (same_or_not j p) where
   on (inl e) = rw (e, at_same x p (Present (join_into a (at x p))) l) (lies_joined a c (at x p) (rw e at h))
   on (inr n) = rw (at_other x p j (Present (join_into a (at x p))) n) h
 
-pub IsUnder-join : (u : Setup) (sp : Span) (g x : List Entry) (p : ℕ) (a : Ages) → p < 139392 → IsUnder u sp g x → ((f : ℕ → Entry) → IsClosedAt u sp f → LiesAt a (f p)) → IsHeldBy a (at g p) → IsUnder u sp g (joined_at x p a)
+pub IsUnder-join : (u : Setup) (sp : Span) (g x : List Entry) (p : ℕ) (a : Ages) → p < (contexts_of sp) → IsUnder u sp g x → ((f : ℕ → Entry) → IsClosedAt u sp f → LiesAt a (f p)) → IsHeldBy a (at g p) → IsUnder u sp g (joined_at x p a)
 IsUnder-join u sp g x p a l s needed h = record {
   size = length-set x p (Present (join_into a (at x p))) ∙ s.size;
   least = λ f c j m. least f c j m (same_or_not j p);
@@ -97,54 +100,54 @@ IsUnder-join u sp g x p a l s needed h = record {
   inside : p < length x
   inside = rw s.size l
 
-  least : (f : ℕ → Entry) → IsClosedAt u sp f → (j : ℕ) → j < 139392 → (j ≡ p) ⊎ (j ≢ p) → EntryIn (at (joined_at x p a) j) (f j)
+  least : (f : ℕ → Entry) → IsClosedAt u sp f → (j : ℕ) → j < (contexts_of sp) → (j ≡ p) ⊎ (j ≢ p) → EntryIn (at (joined_at x p a) j) (f j)
   least f c j m (inl e) = rw (e, at_same x p (Present (join_into a (at x p))) inside) (join_lies a (at x p) (f p) (needed f c) (s.least f c p l))
   least f c j m (inr n) = rw (at_other x p j (Present (join_into a (at x p))) n) (s.least f c j m)
 
-  within : (j : ℕ) → j < 139392 → (j ≡ p) ⊎ (j ≢ p) → Below (at (joined_at x p a) j) (at g j)
+  within : (j : ℕ) → j < (contexts_of sp) → (j ≡ p) ⊎ (j ≢ p) → Below (at (joined_at x p a) j) (at g j)
   within j m (inl e) = rw (e, at_same x p (Present (join_into a (at x p))) inside) (join_holds a (at x p) (at g p) h (s.within p l))
   within j m (inr n) = rw (at_other x p j (Present (join_into a (at x p))) n) (s.within j m)
 
 -- what follows ages inside lies where theirs do
-pub follows_lie : (f : ℕ → Entry) (ms ns : List Next) → AreAlike (GoesLike AreInside) ms ns → AllLie f ns → AllLie f ms
-follows_lie f [] ns h l = tt
-follows_lie f (m ∷ ms) [] h l = absurd h
-follows_lie f (m ∷ ms) (n ∷ ns) h l = (rw h.0.context (lies_trans m.ages n.ages _ h.0.ages l.0), follows_lie f ms ns h.1 l.1)
+pub follows_lie : (far : Follow) (f : ℕ → Entry) (ms ns : List Next) → AreAlike (GoesLike AreInside) ms ns → AllLie far f ns → AllLie far f ms
+follows_lie far f [] ns h l = tt
+follows_lie far f (m ∷ ms) [] h l = absurd h
+follows_lie far f (m ∷ ms) (n ∷ ns) h l = (rw h.0.context (lies_trans m.ages n.ages _ h.0.ages l.0), follows_lie far f ms ns h.1 l.1)
 
 lies_same : (a b : Ages) (e : Entry) → a ≡ b → LiesAt b e → LiesAt a e
 lies_same a b e q h = rw q h
 
-pub follows_edge : (f : ℕ → Entry) (ms ns : List Next) → AreAlike (GoesLike SameAfterEdge) ms ns → LieBut true f ns → LieBut true f ms
-follows_edge f [] ns h l = tt
-follows_edge f (m ∷ ms) [] h l = absurd h
-follows_edge f (m ∷ ms) (n ∷ ns) h l =
-    (λ q. rw h.0.context (lies_same m.ages n.ages _ (h.0.ages q) (l.0 (sym h.0.passes ∙ q))), follows_edge f ms ns h.1 l.1)
+pub follows_edge : (far : Follow) (f : ℕ → Entry) (ms ns : List Next) → AreAlike (GoesLike SameAfterEdge) ms ns → LieBut far true f ns → LieBut far true f ms
+follows_edge far f [] ns h l = tt
+follows_edge far f (m ∷ ms) [] h l = absurd h
+follows_edge far f (m ∷ ms) (n ∷ ns) h l =
+    (λ q. rw h.0.context (lies_same m.ages n.ages _ (h.0.ages q) (l.0 (sym h.0.passes ∙ q))), follows_edge far f ms ns h.1 l.1)
 
-pub lie_but : (o : Bool) (f : ℕ → Entry) (ns : List Next) → AllLie f ns → LieBut o f ns
-lie_but o f ns h = EachNext-map (λ n. LiesAt n.ages (f (spot n))) (λ n. (o && n.passes) ≡ false → LiesAt n.ages (f (spot n))) (λ n k q. k) ns h
+pub lie_but : (far : Follow) (o : Bool) (f : ℕ → Entry) (ns : List Next) → AllLie far f ns → LieBut far o f ns
+lie_but far o f ns h = EachNext-map (λ n. LiesAt n.ages (f (spot far n))) (λ n. (o && n.passes) ≡ false → LiesAt n.ages (f (spot far n))) (λ n k q. k) ns h
 
-along : (u : Setup) (sp : Span) (f : ℕ → Entry) (i : ℕ) (a b : Ages) → IsInside a b → AllLie f (nexts_at u sp i b) → AllLie f (nexts_at u sp i a)
+along : (u : Setup) (sp : Span) (f : ℕ → Entry) (i : ℕ) (a b : Ages) → IsInside a b → AllLie (followed sp) f (nexts_at u sp i b) → AllLie (followed sp) f (nexts_at u sp i a)
 unfolding nexts_at
-along u sp f i a b k h = follows_lie f _ _ (IsNarrower-context_steps u sp _ a b k).nexts h
+along u sp f i a b k h = follows_lie (followed sp) f _ _ (IsNarrower-context_steps u sp _ a b k).nexts h
 
-pub beside : (u : Setup) (sp : Span) (f : ℕ → Entry) (i : ℕ) (a b : Ages) → LieBut true f (nexts_at u sp i b) → LieBut true f (nexts_at u sp i a)
+pub beside : (u : Setup) (sp : Span) (f : ℕ → Entry) (i : ℕ) (a b : Ages) → LieBut (followed sp) true f (nexts_at u sp i b) → LieBut (followed sp) true f (nexts_at u sp i a)
 unfolding nexts_at
-beside u sp f i a b h = follows_edge f _ _ (SameAfterEdge-context_steps u sp _ a b) h
+beside u sp f i a b h = follows_edge (followed sp) f _ _ (SameAfterEdge-context_steps u sp _ a b) h
 
 -- after a row whose ages lie in a closed table's, all nexts lie in it
-pub closed_lies : (u : Setup) (sp : Span) (f : ℕ → Entry) (i : ℕ) (a : Ages) → i < 139392 → IsClosedAt u sp f → LiesAt a (f i) → AllLie f (nexts_at u sp i a)
+pub closed_lies : (u : Setup) (sp : Span) (f : ℕ → Entry) (i : ℕ) (a : Ages) → i < (contexts_of sp) → IsClosedAt u sp f → LiesAt a (f i) → AllLie (followed sp) f (nexts_at u sp i a)
 closed_lies u sp f i a l c h = on (f i) refl h where
-  on : (e : Entry) → f i ≡ e → LiesAt a e → AllLie f (nexts_at u sp i a)
+  on : (e : Entry) → f i ≡ e → LiesAt a e → AllLie (followed sp) f (nexts_at u sp i a)
   on Absent q k = absurd k
   on (Present b) q k = along u sp f i a b k (c.steps i b l q)
 
 -- after a row that a closed table has, all nexts lie in it but the passages of an open row
-pub closed_lie_but : (u : Setup) (sp : Span) (f : ℕ → Entry) (i : ℕ) (a : Ages) → i < 139392 → IsClosedAt u sp f → IsHeldBy a (f i) → LieBut (is_open a) f (nexts_at u sp i a)
+pub closed_lie_but : (u : Setup) (sp : Span) (f : ℕ → Entry) (i : ℕ) (a : Ages) → i < (contexts_of sp) → IsClosedAt u sp f → IsHeldBy a (f i) → LieBut (followed sp) (is_open a) f (nexts_at u sp i a)
 closed_lie_but u sp f i a l c h = on (f i) refl h where
-  by : (a b : Ages) → AllLie f (nexts_at u sp i b) → LieBut (is_open a) f (nexts_at u sp i a)
-  by Empty b k = lie_but false f _ (along u sp f i Empty b tt k)
-  by (Between lo hi) b k = beside u sp f i (Between lo hi) b (lie_but true f _ k)
+  by : (a b : Ages) → AllLie (followed sp) f (nexts_at u sp i b) → LieBut (followed sp) (is_open a) f (nexts_at u sp i a)
+  by Empty b k = lie_but (followed sp) false f _ (along u sp f i Empty b tt k)
+  by (Between lo hi) b k = beside u sp f i (Between lo hi) b (lie_but (followed sp) true f _ k)
 
-  on : (e : Entry) → f i ≡ e → IsHeldBy a e → LieBut (is_open a) f (nexts_at u sp i a)
+  on : (e : Entry) → f i ≡ e → IsHeldBy a e → LieBut (followed sp) (is_open a) f (nexts_at u sp i a)
   on Absent q k = absurd k
   on (Present b) q k = by a b (c.steps i b l q)

@@ -1,5 +1,9 @@
-pub mod Nexts
+pub mod Coming
 pub mod Placing
+pub mod Fitting
+pub mod PlacedNexts
+pub mod Passages
+pub mod RowNexts
 pub mod Grids
 pub mod Reaching
 pub mod Joins
@@ -20,3 +24,4 @@ pub mod Slack
 pub mod Capped
 pub mod Settling
 mod BadRows
+mod NumberRows

@@ -2,6 +2,7 @@
 use Rattle.std.proofs.Common.{◌≡◌, ◌≢◌, ℕ, zero, suc, ◌+◌, ◌<◌, ◌≤◌, ◌==◌, Bool, true, false, ◌&&◌, if◌then◌else◌, List, [], ◌∷◌, map, refl, sym, ap, ◌∙◌, inl, inr, arith}
 use Rattle.std.proofs.lemmas.Bool.{cases_lt}
 use Rattle.std.proofs.lemmas.Bool.Decides.{nat_tests}
+use Rattle.pin_matrix.specs.Followed.{followed}
 use Rattle.pin_matrix.specs.declared.setup.Setup.{Setup}
 use Rattle.pin_matrix.specs.declared.span.Span.{Span}
 use Rattle.span_step.specs.declared.ages.Ages.{Ages}
@@ -17,7 +18,8 @@ use Rattle.span_bounds.specs.Numbers.{number_of}
 use Rattle.span_bounds.specs.Edges.{at, nexts_at, spot, EachNext}
 use Rattle.span_bounds.specs.Reach.{IsHeldBy, AreHeld}
 use Rattle.span_bounds.specs.Sums.{total, passages, waits, waits_by, one_if, open_at}
-use Rattle.span_bounds.proofs.Nexts.{EachNext-map}
+use Rattle.span_bounds.proofs.Coming.{EachNext-map}
+use Rattle.pin_matrix.specs.declared.assume.Follow.{Follow}
 
 pub total-zero : (n : ℕ) (f : ℕ → ℕ) → ((w : ℕ) → w < n → f w ≡ 0) → total n f ≡ 0
 unfolding total
@@ -59,37 +61,37 @@ total-some (suc n) f h = elim (cases_lt 0 (f n)) [
 ]
 
 -- passages by contexts alone
-aims : ℕ → List (Context × Bool) → ℕ
-aims v [] = 0
-aims v (k ∷ ks) = one_if (k.1 && number_of k.0 == v) + aims v ks
+aims : Follow → ℕ → List (Context × Bool) → ℕ
+aims far v [] = 0
+aims far v (k ∷ ks) = one_if (k.1 && number_of far k.0 == v) + aims far v ks
 
-passages-aims : (v : ℕ) (ns : List Next) → passages v ns ≡ aims v (map aim_of ns)
+passages-aims : (far : Follow) (v : ℕ) (ns : List Next) → passages far v ns ≡ aims far v (map aim_of ns)
 unfolding passages aims
-passages-aims v [] = refl
-passages-aims v (n ∷ ns) = let h = passages-aims v ns in ap (λ t. one_if (n.passes && number_of n.context == v) + t) h
+passages-aims far v [] = refl
+passages-aims far v (n ∷ ns) = let h = passages-aims far v ns in ap (λ t. one_if (n.passes && number_of far n.context == v) + t) h
 
 -- how many passages there are doesn't depend on the ages
-pub passages_alike : (u : Setup) (sp : Span) (v i : ℕ) (a b : Ages) → passages v (nexts_at u sp i a) ≡ passages v (nexts_at u sp i b)
+pub passages_alike : (u : Setup) (sp : Span) (v i : ℕ) (a b : Ages) → passages (followed sp) v (nexts_at u sp i a) ≡ passages (followed sp) v (nexts_at u sp i b)
 unfolding nexts_at
-passages_alike u sp v i a b = passages-aims v _ ∙ (ap (aims v) (contexts_alike u sp _ a b) ∙ sym (passages-aims v _))
+passages_alike u sp v i a b = passages-aims (followed sp) v _ ∙ (ap (aims (followed sp) v) (contexts_alike u sp _ a b) ∙ sym (passages-aims (followed sp) v _))
 
-pub passages-cons : (v : ℕ) (n : Next) (ns : List Next) → passages v (n ∷ ns) ≡ one_if (n.passes && spot n == v) + passages v ns
+pub passages-cons : (far : Follow) (v : ℕ) (n : Next) (ns : List Next) → passages far v (n ∷ ns) ≡ one_if (n.passes && spot far n == v) + passages far v ns
 unfolding passages
-passages-cons v n ns = refl
+passages-cons far v n ns = refl
 
 self_number : (p : ℕ) → (p == p) ≡ true
 self_number p = grind (arith, nat_tests)
 
 -- each next to which a course passes is counted at its number
-pub counted_each : (ns : List Next) → EachNext (λ n. n.passes ≡ true → 1 ≤ passages (spot n) ns) ns
+pub counted_each : (far : Follow) (ns : List Next) → EachNext (λ n. n.passes ≡ true → 1 ≤ passages far (spot far n) ns) ns
 unfolding passages
-counted_each [] = tt
-counted_each (m ∷ ns) = (own, EachNext-map (λ n. n.passes ≡ true → 1 ≤ passages (spot n) ns) (λ n. n.passes ≡ true → 1 ≤ passages (spot n) (m ∷ ns)) (λ n k q. more n (k q)) ns (counted_each ns)) where
-  own : m.passes ≡ true → 1 ≤ passages (spot m) (m ∷ ns)
-  own q = let e : one_if (m.passes && spot m == spot m) ≡ 1 = rw (q, self_number (spot m)) refl in let c = passages-cons (spot m) m ns in omega arith
+counted_each far [] = tt
+counted_each far (m ∷ ns) = (own, EachNext-map (λ n. n.passes ≡ true → 1 ≤ passages far (spot far n) ns) (λ n. n.passes ≡ true → 1 ≤ passages far (spot far n) (m ∷ ns)) (λ n k q. more n (k q)) ns (counted_each far ns)) where
+  own : m.passes ≡ true → 1 ≤ passages far (spot far m) (m ∷ ns)
+  own q = let e : one_if (m.passes && spot far m == spot far m) ≡ 1 = rw (q, self_number (spot far m)) refl in let c = passages-cons far (spot far m) m ns in omega arith
 
-  more : (n : Next) → 1 ≤ passages (spot n) ns → 1 ≤ passages (spot n) (m ∷ ns)
-  more n h = let c = passages-cons (spot n) m ns in omega arith
+  more : (n : Next) → 1 ≤ passages far (spot far n) ns → 1 ≤ passages far (spot far n) (m ∷ ns)
+  more n h = let c = passages-cons far (spot far n) m ns in omega arith
 
 reached_open : (n : ℕ) (a : Ages) → ReachesAge n a → is_open a ≡ true
 reached_open n Empty h = absurd h
@@ -111,27 +113,27 @@ open_nexts u sp i Empty h = absurd (shut h) where
   shut e = cc
 open_nexts u sp i (Between lo hi) h = all_open _ _ (AllReach-context_steps u sp _ (Between lo hi) 0 (omega arith))
 
-no_passages : (g : List Entry) (v : ℕ) (ns : List Next) → open_at (at g v) ≡ false → AllOpen ns → AreHeld (at g) ns → passages v ns ≡ 0
+no_passages : (far : Follow) (g : List Entry) (v : ℕ) (ns : List Next) → open_at (at g v) ≡ false → AllOpen ns → AreHeld far (at g) ns → passages far v ns ≡ 0
 unfolding passages AllOpen
-no_passages g v [] shut o h = refl
-no_passages g v (n ∷ ns) shut o h = rw (none (n.passes) refl, no_passages g v ns shut o.1 h.1) refl where
+no_passages far g v [] shut o h = refl
+no_passages far g v (n ∷ ns) shut o h = rw (none (n.passes) refl, no_passages far g v ns shut o.1 h.1) refl where
   opened : (e : Entry) → is_open n.ages ≡ true → IsHeldBy n.ages e → open_at e ≡ false → ⊥
   opened Absent p k q = absurd k
   opened (Present b) p k q = let t : is_open b ≡ true = k p in cc
 
-  at_spot : (z : Bool) → (spot n == v) ≡ z → n.passes ≡ true → one_if z ≡ 0
-  at_spot true e q = absurd (opened (at g (spot n)) (o.0 q) h.0 (let same : spot n ≡ v = grind (arith, nat_tests) in rw same shut))
+  at_spot : (z : Bool) → (spot far n == v) ≡ z → n.passes ≡ true → one_if z ≡ 0
+  at_spot true e q = absurd (opened (at g (spot far n)) (o.0 q) h.0 (let same : spot far n ≡ v = grind (arith, nat_tests) in rw same shut))
   at_spot false e q = refl
 
-  none : (z : Bool) → n.passes ≡ z → one_if (z && spot n == v) ≡ 0
-  none true q = at_spot (spot n == v) refl q
+  none : (z : Bool) → n.passes ≡ z → one_if (z && spot far n == v) ≡ 0
+  none true q = at_spot (spot far n == v) refl q
   none false q = refl
 
 -- no open row passes to a number that isn't open
-pub waits_shut : (u : Setup) (sp : Span) (g : List Entry) (v w : ℕ) → ((a : Ages) → at g w ≡ Present a → AreHeld (at g) (nexts_at u sp w a)) → open_at (at g v) ≡ false → waits u sp (at g) v w ≡ 0
+pub waits_shut : (u : Setup) (sp : Span) (g : List Entry) (v w : ℕ) → ((a : Ages) → at g w ≡ Present a → AreHeld (followed sp) (at g) (nexts_at u sp w a)) → open_at (at g v) ≡ false → waits u sp (at g) v w ≡ 0
 waits_shut u sp g v w steps shut = on (at g w) refl where
-  by : (a : Ages) (z : Bool) → at g w ≡ Present a → is_open a ≡ z → (if z then passages v (nexts_at u sp w a) else 0) ≡ 0
-  by a true q o = no_passages g v _ shut (open_nexts u sp w a o) (steps a q)
+  by : (a : Ages) (z : Bool) → at g w ≡ Present a → is_open a ≡ z → (if z then passages (followed sp) v (nexts_at u sp w a) else 0) ≡ 0
+  by a true q o = no_passages (followed sp) g v _ shut (open_nexts u sp w a o) (steps a q)
   by a false q o = refl
 
   on : (e : Entry) → at g w ≡ e → waits_by u sp v w e ≡ 0

@@ -1,11 +1,12 @@
 pub mod Numbers
 pub mod Tables
+pub mod Marks
 pub mod Edges
 pub mod Reach
 pub mod Sums
 pub mod Count
 pub mod Take
 pub mod Answers
-pub mod Marks
 pub mod Queues
 pub mod Settle
+pub mod Stacks

@@ -4,6 +4,8 @@
 --   SweepAtRow       the same while the nexts of a row are looked at
 --   IsReach          its end
 use Rattle.std.specs.Prelude.{◌≡◌, ℕ, ◌<◌, ◌⊎◌, Bool, true, false, not, ◌||◌, if◌then◌else◌, MatchBool, List, [], ◌∷◌, ◌++◌, length, slice_set, sum_by}
+use Rattle.pin_matrix.specs.Followed.{followed}
+use Rattle.pin_matrix.specs.declared.assume.Follow.{Follow}
 use Rattle.pin_matrix.specs.declared.setup.Setup.{Setup}
 use Rattle.pin_matrix.specs.declared.span.Span.{Span}
 use Rattle.span_step.specs.declared.ages.Ages.{Ages}
@@ -12,7 +14,7 @@ use Rattle.span_step.specs.declared.stepped.Next.{Next}
 use Rattle.span_step.specs.Contexts.{is_open}
 use Rattle.span_bounds.specs.declared.entry.Entry.{Entry}
 use Rattle.span_bounds.specs.declared.entry.Entry.TheVariants.{Absent, Present}
-use Rattle.span_bounds.specs.Numbers.{number_of}
+use Rattle.span_bounds.specs.Numbers.{number_of, contexts_of}
 use Rattle.span_bounds.specs.Tables.{start_context}
 use Rattle.span_bounds.specs.Edges.{at, nexts_at, spot, EachNext, IsClosedAt, Among}
 
@@ -32,8 +34,8 @@ Below Absent e = Unit {0}
 Below (Present a) e = IsHeldBy a e
 
 -- each next is held
-abbrev pub AreHeld : (ℕ → Entry) → List Next → Type 0
-AreHeld f ns = EachNext (λ n. IsHeldBy n.ages (f (spot n))) ns
+abbrev pub AreHeld : Follow → (ℕ → Entry) → List Next → Type 0
+AreHeld d f ns = EachNext (λ n. IsHeldBy n.ages (f (spot d n))) ns
 
 -- the ages for a mark: open or not
 abbrev pub zeroed : Ages → Ages
@@ -56,17 +58,17 @@ pub record IsNeeded (u : Setup) (sp : Span) (i : ℕ) (a : Ages) : Type 0 where
 -- the first sweep on its way: the start is there; what a row leads to is there, unless the row waits; and no more is there
 -- than in every closed table
 pub record Sweep (u : Setup) (sp : Span) (g : List Entry) (waiting : List ℕ) : Type 0 where
-  pub size : length g ≡ 139392
-  pub near : (i : ℕ) → Among i waiting → i < 139392
-  pub begins : IsHeldBy Empty (at g (number_of (start_context u sp)))
-  pub steps : (i : ℕ) (a : Ages) → i < 139392 → at g i ≡ Present a → Among i waiting ⊎ AreHeld (at g) (nexts_at u sp i a)
-  pub least : (f : ℕ → Entry) → IsClosedAt u sp f → (i : ℕ) → i < 139392 → Below (at g i) (f i)
+  pub size : length g ≡ contexts_of sp
+  pub near : (i : ℕ) → Among i waiting → i < contexts_of sp
+  pub begins : IsHeldBy Empty (at g (number_of (followed sp) (start_context u sp)))
+  pub steps : (i : ℕ) (a : Ages) → i < contexts_of sp → at g i ≡ Present a → Among i waiting ⊎ AreHeld (followed sp) (at g) (nexts_at u sp i a)
+  pub least : (f : ℕ → Entry) → IsClosedAt u sp f → (i : ℕ) → i < contexts_of sp → Below (at g i) (f i)
 
 -- the same while the nexts of a row are looked at, of which these are done
 pub record SweepAtRow (u : Setup) (sp : Span) (g : List Entry) (waiting : List ℕ) (i : ℕ) (a : Ages) (done : List Next) : Type 0 where
   pub sweep : Sweep u sp g (i ∷ waiting)
   pub row : IsNeeded u sp i a
-  pub held : AreHeld (at g) done
+  pub held : AreHeld (followed sp) (at g) done
   pub same : (at g i ≡ Present a) ⊎ Among i waiting
 
 -- its end

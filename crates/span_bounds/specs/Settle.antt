@@ -8,6 +8,8 @@
 --   SettleRow        the same while the nexts of a row are looked at
 --   Begun            before it, with so many rows looked at
 use Rattle.std.specs.Prelude.{◌≡◌, ℕ, ◌+◌, ◌*◌, ◌-◌, ◌<◌, ◌≤◌, ◌⊎◌, ◌==◌, nat_le, nat_lt, Bool, true, false, not, ◌&&◌, ◌||◌, MatchBool, List, length, slice_set, sum_by, take}
+use Rattle.pin_matrix.specs.Followed.{followed}
+use Rattle.pin_matrix.specs.declared.assume.Follow.{Follow}
 use Rattle.pin_matrix.specs.declared.setup.Setup.{Setup}
 use Rattle.pin_matrix.specs.declared.span.Span.{Span}
 use Rattle.span_step.specs.declared.ages.Ages.{Ages}
@@ -15,6 +17,7 @@ use Rattle.span_step.specs.declared.ages.Ages.TheVariants.{Empty, Between}
 use Rattle.span_step.specs.declared.stepped.Next.{Next}
 use Rattle.span_bounds.specs.declared.entry.Entry.{Entry}
 use Rattle.span_bounds.specs.declared.entry.Entry.TheVariants.{Absent, Present}
+use Rattle.span_bounds.specs.Numbers.{contexts_of}
 use Rattle.span_bounds.specs.Tables.{LiesAt}
 use Rattle.span_bounds.specs.Edges.{at, nexts_at, spot, AllLie, IsClosedAt, Among}
 use Rattle.span_bounds.specs.Reach.{IsHeldBy, IsReach}
@@ -61,12 +64,12 @@ ease_left c x waiting = sum_by (slack c) x + length waiting
 
 -- What is left of a next: where its ages don't lie in the table they join those of its row, which waits then. A row that waits
 -- already isn't added again, but where it had one age alone: then it wasn't among the numbers that come first.
-abbrev pub Eased : Next → (x new_x l new_l : List Entry) (w new_w : List ℕ) → Type 0
-Eased n x new_x l new_l w new_w = MatchBool (lies n.ages (at x (spot n)))
+abbrev pub Eased : Follow → Next → (x new_x l new_l : List Entry) (w new_w : List ℕ) → Type 0
+Eased d n x new_x l new_l w new_w = MatchBool (lies n.ages (at x (spot d n)))
     ((new_x ≡ x) × ((new_l ≡ l) × (new_w ≡ w)))
-    ((new_x ≡ slice_set x (spot n) (Present (join_into n.ages (at x (spot n)))))
-    × MatchBool (is_single (at x (spot n)) || not (open_at (at l (spot n))))
-    ((new_l ≡ slice_set l (spot n) (Present (Between 0 0))) × IsMore (spot n) w new_w)
+    ((new_x ≡ slice_set x (spot d n) (Present (join_into n.ages (at x (spot d n)))))
+    × MatchBool (is_single (at x (spot d n)) || not (open_at (at l (spot d n))))
+    ((new_l ≡ slice_set l (spot d n) (Present (Between 0 0))) × IsMore (spot d n) w new_w)
     ((new_l ≡ l) × (new_w ≡ w)))
 
 -- What is left of a row before the sweep: one that the third sweep left has the age at which ages stop. It comes first if that
@@ -81,33 +84,33 @@ BegunAt c i l x new_x w new_w = MatchBool (open_at (at l i))
 -- the rest.
 pub record Settle (u : Setup) (sp : Span) (g l x : List Entry) (waiting : List ℕ) (rest : ℕ) : Type 0 where
   pub keeps : IsFresh u sp g x
-  pub size : length l ≡ 139392
-  pub near : (i : ℕ) → Among i waiting → i < 139392
-  pub queued : (i : ℕ) → i < 139392 → i < rest → open_at (at l i) ≡ true → Among i waiting
-  pub done : (i : ℕ) (a : Ages) → i < 139392 → open_at (at l i) ≡ false → at x i ≡ Present a → AllLie (at x) (nexts_at u sp i a)
-  pub there : (j : ℕ) → j < 139392 → open_at (at l j) ≡ true → LiesAt Empty (at x j)
+  pub size : length l ≡ contexts_of sp
+  pub near : (i : ℕ) → Among i waiting → i < contexts_of sp
+  pub queued : (i : ℕ) → i < contexts_of sp → i < rest → open_at (at l i) ≡ true → Among i waiting
+  pub done : (i : ℕ) (a : Ages) → i < contexts_of sp → open_at (at l i) ≡ false → at x i ≡ Present a → AllLie (followed sp) (at x) (nexts_at u sp i a)
+  pub there : (j : ℕ) → j < contexts_of sp → open_at (at l j) ≡ true → LiesAt Empty (at x j)
   pub few : length waiting ≤ sum_by one_waiting l + sum_by one_wide x + 1
 
 -- the same while row i, which had these ages, is looked at, of whose nexts these are done
 pub record SettleRow (u : Setup) (sp : Span) (g l x : List Entry) (waiting : List ℕ) (rest i : ℕ) (a : Ages) (done : List Next) : Type 0 where
   pub keeps : IsFresh u sp g x
-  pub size : length l ≡ 139392
-  pub near : (j : ℕ) → Among j waiting → j < 139392
-  pub queued : (j : ℕ) → j < 139392 → j < rest → open_at (at l j) ≡ true → Among j waiting
-  pub finished : (j : ℕ) (b : Ages) → j < 139392 → open_at (at l j) ≡ false → (j ≡ i → ⊥) → at x j ≡ Present b → AllLie (at x) (nexts_at u sp j b)
+  pub size : length l ≡ contexts_of sp
+  pub near : (j : ℕ) → Among j waiting → j < contexts_of sp
+  pub queued : (j : ℕ) → j < contexts_of sp → j < rest → open_at (at l j) ≡ true → Among j waiting
+  pub finished : (j : ℕ) (b : Ages) → j < contexts_of sp → open_at (at l j) ≡ false → (j ≡ i → ⊥) → at x j ≡ Present b → AllLie (followed sp) (at x) (nexts_at u sp j b)
   pub own : (at x i ≡ Present a) ⊎ (open_at (at l i) ≡ true)
-  pub held : AllLie (at x) done
+  pub held : AllLie (followed sp) (at x) done
   pub needed : (f : ℕ → Entry) → IsClosedAt u sp f → LiesAt a (f i)
   pub reached : IsHeldBy a (at g i)
-  pub there : (j : ℕ) → j < 139392 → open_at (at l j) ≡ true → LiesAt Empty (at x j)
+  pub there : (j : ℕ) → j < contexts_of sp → open_at (at l j) ≡ true → LiesAt Empty (at x j)
   pub few : length waiting ≤ sum_by one_waiting l + sum_by one_wide x + 1
 
 -- before it: the rows below n that are left have the age at which ages stop
 pub record Begun (u : Setup) (sp : Span) (g l x : List Entry) (waiting : List ℕ) (n : ℕ) : Type 0 where
   pub keeps : IsFresh u sp g x
-  pub near : (i : ℕ) → Among i waiting → i < 139392
-  pub done : (i : ℕ) (a : Ages) → i < 139392 → open_at (at l i) ≡ false → at x i ≡ Present a → AllLie (at x) (nexts_at u sp i a)
-  pub there : (j : ℕ) → j < 139392 → open_at (at l j) ≡ true → LiesAt Empty (at x j)
+  pub near : (i : ℕ) → Among i waiting → i < contexts_of sp
+  pub done : (i : ℕ) (a : Ages) → i < contexts_of sp → open_at (at l i) ≡ false → at x i ≡ Present a → AllLie (followed sp) (at x) (nexts_at u sp i a)
+  pub there : (j : ℕ) → j < contexts_of sp → open_at (at l j) ≡ true → LiesAt Empty (at x j)
   pub few : length waiting ≤ sum_by one_waiting (take n l)
 
 -- the sweep on its way after some first sweep

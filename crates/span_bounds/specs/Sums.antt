@@ -4,6 +4,8 @@
 --   waits            how many passages of a row lead to a number, if the row is open
 --   join_into        an entry with more ages
 use Rattle.std.specs.Prelude.{ℕ, zero, suc, ◌+◌, ◌==◌, min, max, Bool, true, false, ◌&&◌, if◌then◌else◌, List, [], ◌∷◌}
+use Rattle.pin_matrix.specs.Followed.{followed}
+use Rattle.pin_matrix.specs.declared.assume.Follow.{Follow}
 use Rattle.pin_matrix.specs.declared.setup.Setup.{Setup}
 use Rattle.pin_matrix.specs.declared.span.Span.{Span}
 use Rattle.span_step.specs.declared.ages.Ages.{Ages}
@@ -25,9 +27,9 @@ one_if true = 1
 one_if false = 0
 
 -- how many of these nexts are reached at this number without a to-edge
-unfoldable pub passages : ℕ → List Next → ℕ
-passages v [] = 0
-passages v (n ∷ ns) = one_if (n.passes && spot n == v) + passages v ns
+unfoldable pub passages : Follow → ℕ → List Next → ℕ
+passages d v [] = 0
+passages d v (n ∷ ns) = one_if (n.passes && spot d n == v) + passages d v ns
 
 -- ages are open at an entry
 abbrev pub open_at : Entry → Bool
@@ -37,7 +39,7 @@ open_at (Present a) = is_open a
 -- how many passages of a row with this entry lead to v, if it is open
 abbrev pub waits_by : Setup → Span → ℕ → ℕ → Entry → ℕ
 waits_by u sp v w Absent = 0
-waits_by u sp v w (Present a) = if is_open a then passages v (nexts_at u sp w a) else 0
+waits_by u sp v w (Present a) = if is_open a then passages (followed sp) v (nexts_at u sp w a) else 0
 
 -- the same in a table
 abbrev pub waits : Setup → Span → (ℕ → Entry) → ℕ → ℕ → ℕ

@@ -10,7 +10,9 @@
 --   IsProvable       some closed table is good
 --   first_bad        the first bad row with its first cause
 use Rattle.std.specs.Prelude.{◌≡◌, ℕ, ◌+◌, ◌==◌, nat_lt, if◌then◌else◌, Option, Some, None, List, [], ◌∷◌, IsTrue, slice_index_or}
+use Rattle.pin_matrix.specs.Followed.{followed}
 use Rattle.pin_matrix.specs.Pins.{is_high}
+use Rattle.pin_matrix.specs.declared.assume.Follow.{Follow}
 use Rattle.pin_matrix.specs.declared.machine.MachineSetup.{MachineSetup}
 use Rattle.pin_matrix.specs.Spans.{signal_bits}
 use Rattle.pin_matrix.specs.declared.setup.Setup.{Setup}
@@ -21,6 +23,7 @@ use Rattle.span_step.specs.declared.cause.Cause.{Cause}
 use Rattle.span_step.specs.declared.stepped.Next.{Next}
 use Rattle.span_step.specs.Contexts.{Context, is_placed, IsInside}
 use Rattle.span_step.specs.Laws.{first_cause}
+use Rattle.span_step.specs.Narrowing.{followed_to, nexts_of}
 use Rattle.span_step.specs.Steps.{context_steps}
 use Rattle.span_bounds.specs.declared.entry.Entry.{Entry}
 use Rattle.span_bounds.specs.declared.entry.Entry.TheVariants.{Absent, Present}
@@ -28,9 +31,13 @@ use Rattle.span_bounds.specs.declared.row.Row.{Row}
 use Rattle.span_bounds.specs.Numbers.{number_of, context_at}
 
 -- what a table says of the context with this number
-abbrev pub entry_at : List Row → ℕ → Entry
-entry_at [] i = Absent
-entry_at (r ∷ rows) i = if number_of r.context == i then Present r.ages else entry_at rows i
+abbrev pub entry_at : Follow → List Row → ℕ → Entry
+entry_at d [] i = Absent
+entry_at d (r ∷ rows) i = if number_of d r.context == i then Present r.ages else entry_at d rows i
+
+-- what a table says of a context: nothing where its X or Y is above what is followed
+abbrev pub entry_of : Follow → List Row → Context → Entry
+entry_of d rows k = if is_placed d k.address k.x k.y then entry_at d rows (number_of d k) else Absent
 
 -- there is a row, and the ages lie inside its ages
 abbrev pub LiesAt : Ages → Entry → Type 0
@@ -38,26 +45,22 @@ LiesAt a Absent = ⊥
 LiesAt a (Present b) = IsInside a b
 
 -- each context is in range, and its number is above this one, and the next one's above its
-abbrev pub IsTableFrom : ℕ → List Row → Type 0
-IsTableFrom n [] = Unit {0}
-IsTableFrom n (r ∷ rows) =
-    IsTrue (is_placed r.context.address r.context.x r.context.y) × (IsTrue (nat_lt n (number_of r.context + 1)) × IsTableFrom (number_of r.context + 1) rows)
+abbrev pub IsTableFrom : Follow → ℕ → List Row → Type 0
+IsTableFrom d n [] = Unit {0}
+IsTableFrom d n (r ∷ rows) =
+    IsTrue (is_placed d r.context.address r.context.x r.context.y) × (IsTrue (nat_lt n (number_of d r.context + 1)) × IsTableFrom d (number_of d r.context + 1) rows)
 
 -- the rows are in context order, each context once
-abbrev pub IsTable : List Row → Type 0
-IsTable rows = IsTableFrom 0 rows
-
--- X or Y at the start, where it is below 32
-abbrev pub known_of : ℕ → Option ℕ
-known_of n = if nat_lt n 32 then Some n else None
+abbrev pub IsTable : Follow → List Row → Type 0
+IsTable d rows = IsTableFrom d 0 rows
 
 -- the context of a machine at its start
 abbrev pub started : Option MachineSetup → Setup → Span → Context
-started None u sp = context_at 0
+started None u sp = context_at (followed sp) 0
 started (Some s) u sp = record {
   address = s.start;
-  x = known_of s.x;
-  y = known_of s.y;
+  x = followed_to (followed sp).x (Some s.x);
+  y = followed_to (followed sp).y (Some s.y);
   from = is_high (signal_bits sp.from_signal u.level u.out) sp.from_pin;
   to = is_high (signal_bits sp.to_signal u.level u.out) sp.to_pin;
 }
@@ -67,9 +70,9 @@ unfoldable pub start_context : Setup → Span → Context
 start_context u sp = started (slice_index_or u.machines sp.machine None) u sp
 
 -- each next lies within a row
-abbrev pub AllLieIn : List Row → List Next → Type 0
-AllLieIn rows [] = Unit {0}
-AllLieIn rows (n ∷ nexts) = LiesAt n.ages (entry_at rows (number_of n.context)) × AllLieIn rows nexts
+abbrev pub AllLieIn : Follow → List Row → List Next → Type 0
+AllLieIn d rows [] = Unit {0}
+AllLieIn d rows (n ∷ nexts) = LiesAt n.ages (entry_at d rows (number_of d n.context)) × AllLieIn d rows nexts
 
 -- a fact of each row
 abbrev pub EachRow : (Row → Type 0) → List Row → Type 0
@@ -78,27 +81,27 @@ EachRow P (r ∷ rows) = P r × EachRow P rows
 
 -- it holds the start, and each next of each row lies within a row
 pub record IsClosed (u : Setup) (sp : Span) (rows : List Row) : Type 0 where
-  pub starts : LiesAt Empty (entry_at rows (number_of (start_context u sp)))
-  pub steps : EachRow (λ r. AllLieIn rows (context_steps u sp r.context r.ages).nexts) rows
+  pub starts : LiesAt Empty (entry_at (followed sp) rows (number_of (followed sp) (start_context u sp)))
+  pub steps : EachRow (λ r. AllLieIn (followed sp) rows (nexts_of (context_steps u sp r.context r.ages))) rows
 
 -- no row is bad
 abbrev pub IsGood : Setup → Span → List Row → Type 0
 IsGood u sp rows = EachRow (λ r. first_cause (context_steps u sp r.context r.ages).causes ≡ None) rows
 
 -- each row of the first has its context in the second, with its ages inside
-abbrev pub LiesWithin : List Row → List Row → Type 0
-LiesWithin rows others = EachRow (λ r. LiesAt r.ages (entry_at others (number_of r.context))) rows
+abbrev pub LiesWithin : Follow → List Row → List Row → Type 0
+LiesWithin d rows others = EachRow (λ r. LiesAt r.ages (entry_at d others (number_of d r.context))) rows
 
 -- it is closed, and lies within every closed table
 pub record IsLeast (u : Setup) (sp : Span) (rows : List Row) : Type 0 where
-  pub table : IsTable rows
+  pub table : IsTable (followed sp) rows
   pub closed : IsClosed u sp rows
-  pub least : (others : List Row) → IsTable others → IsClosed u sp others → LiesWithin rows others
+  pub least : (others : List Row) → IsTable (followed sp) others → IsClosed u sp others → LiesWithin (followed sp) rows others
 
 -- some closed table is good
 pub record IsProvable (u : Setup) (sp : Span) : Type 0 where
   pub rows : List Row
-  pub table : IsTable rows
+  pub table : IsTable (followed sp) rows
   pub closed : IsClosed u sp rows
   pub good : IsGood u sp rows
 
@@ -113,10 +116,15 @@ first_bad u sp [] = None
 first_bad u sp (r ∷ rows) = bad_or (first_cause (context_steps u sp r.context r.ages).causes) r.context (first_bad u sp rows)
 
 -- the rows of a grid in context order, from this number on
-abbrev pub rows_from : ℕ → List Entry → List Row
-rows_from n [] = []
-rows_from n (Absent ∷ entries) = rows_from (n + 1) entries
-rows_from n (Present a ∷ entries) = record { context = context_at n; ages = a } ∷ rows_from (n + 1) entries
+abbrev pub rows_from : Follow → ℕ → List Entry → List Row
+rows_from d n [] = []
+rows_from d n (Absent ∷ entries) = rows_from d (n + 1) entries
+rows_from d n (Present a ∷ entries) = record { context = context_at d n; ages = a } ∷ rows_from d (n + 1) entries
+
+-- rows, and how far X and Y are followed in them
+pub record FollowedRows : Type 0 where
+  pub follow : Follow
+  pub rows : List Row
 
 -- the ages of an entry, if there is a row
 abbrev pub ages_of : Entry → Option Ages

@@ -1,8 +1,9 @@
 //! The second sweep: the ages that wait for no others, and how many passages each row waits for.
-ghost use Rattle.std.specs.Prelude.{◌≡◌, ◌+◌, ◌-◌, ◌^◌, ◌<◌, ◌≤◌, ◌&&◌, Bool, IsSome, None, MatchBool, length, slice_index, slice_index_or, slice_set};
-ghost use Rattle.span_step.specs.Contexts.{is_open};
+ghost use Rattle.std.specs.Prelude.{◌≡◌, ◌+◌, ◌-◌, ◌^◌, ◌<◌, ◌≤◌, ◌&&◌, Bool, IsSome, IsTrue, None, MatchBool, length, slice_index, slice_index_or, slice_set};
+ghost use Rattle.span_step.specs.Contexts.{is_open, is_placed};
 ghost use Rattle.span_bounds.specs.declared.entry.Entry.TheVariants.{Present};
 ghost use Rattle.span_bounds.specs.Edges.{at, spot};
+ghost use Rattle.span_bounds.specs.Numbers.{contexts, contexts_of};
 ghost use Rattle.span_bounds.specs.Reach.{IsReach};
 ghost use Rattle.span_bounds.specs.Sums as spec;
 ghost use Rattle.span_bounds.specs.Sums.{join_into};
@@ -13,8 +14,9 @@ use crate::grid::Grid;
 use crate::marks::Marks;
 use crate::number::number_of;
 use crate::row_step::row_step;
-use pin_matrix::{Setup, Span};
-use span_step::{Ages, Next};
+use crate::tally::Tally;
+use pin_matrix::{Follow, Setup, Span};
+use span_step::{Ages, Next, Stepped};
 use std::sync::ledger::Ledger;
 use step_count::Steps;
 
@@ -24,16 +26,17 @@ pub(crate) fn count<L: Ledger>(
     span: &Span,
     reach: &Marks,
     table: &mut Grid,
-    missing: &mut Vec<u32>,
+    missing: &mut Tally,
     steps: &mut Steps<L>,
 )
     requires configured { IsSome (slice_index_or setup.now.machines span.now.machine None) }
+    requires few { contexts_of span.now ≤ 2 ^ 24 }
     requires reach { IsReach setup.now span.now reach.now }
-    requires first { Count setup.now span.now reach.now table.old missing.old.items 0 }
-    ensures value { Count setup.now span.now reach.now table.new missing.new.items 139392 }
-    ensures steps { steps.new ≤ steps.old + 139392 }
+    requires first { Count setup.now span.now reach.now table.old missing.old 0 }
+    ensures value { Count setup.now span.now reach.now table.new missing.new (contexts_of span.now) }
+    ensures steps { steps.new ≤ steps.old + contexts_of span.now }
 {
-    for number in 0..139_392 {
+    for number in 0..reach.end() {
         count_number(setup, span, reach, table, missing, number, steps);
     }
 }
@@ -44,15 +47,16 @@ fn count_number<L: Ledger>(
     span: &Span,
     reach: &Marks,
     table: &mut Grid,
-    missing: &mut Vec<u32>,
+    missing: &mut Tally,
     number: usize,
     steps: &mut Steps<L>,
 )
     requires configured { IsSome (slice_index_or setup.now.machines span.now.machine None) }
-    requires number { number < 139392 }
+    requires few { contexts_of span.now ≤ 2 ^ 24 }
+    requires number { number < contexts_of span.now }
     requires reach { IsReach setup.now span.now reach.now }
-    requires before { Count setup.now span.now reach.now table.old missing.old.items number }
-    ensures value { Count setup.now span.now reach.now table.new missing.new.items (number + 1) }
+    requires before { Count setup.now span.now reach.now table.old missing.old number }
+    ensures value { Count setup.now span.now reach.now table.new missing.new (number + 1) }
     ensures steps { steps.new ≤ steps.old + 1 }
 {
     match reach.at(number) {
@@ -67,36 +71,49 @@ fn count_row<L: Ledger>(
     span: &Span,
     reach: &Marks,
     table: &mut Grid,
-    missing: &mut Vec<u32>,
+    missing: &mut Tally,
     number: usize,
     ages: Ages,
     steps: &mut Steps<L>,
 )
     requires configured { IsSome (slice_index_or setup.now.machines span.now.machine None) }
-    requires number { number < 139392 }
+    requires few { contexts_of span.now ≤ 2 ^ 24 }
+    requires number { number < contexts_of span.now }
     requires entry { at reach.now number ≡ Present ages }
     requires reach { IsReach setup.now span.now reach.now }
-    requires before { Count setup.now span.now reach.now table.old missing.old.items number }
-    ensures value { Count setup.now span.now reach.now table.new missing.new.items (number + 1) }
+    requires before { Count setup.now span.now reach.now table.old missing.old number }
+    ensures value { Count setup.now span.now reach.now table.new missing.new (number + 1) }
     ensures steps { steps.new ≤ steps.old + 1 }
 {
     join(table, number, Ages::Empty);
-    let stepped = row_step(setup, span, number, ages, steps);
-    for next in stepped.nexts.as_slice() {
-        count_next(table, missing, ages.is_open(), next);
+    let mut stepped = Stepped::none();
+    row_step(setup, span, number, ages, steps, &mut stepped);
+    let follow = span.assume.follow();
+    let ends = stepped.ends.as_slice();
+    if stepped.narrowing.is_wide() {
+        for next in ends {
+            count_next(table, missing, ages.is_open(), follow, next);
+        }
+    } else {
+        let mut rest = stepped.nexts();
+        while let Some(later) = rest.next() {
+            count_next(table, missing, ages.is_open(), follow, &later);
+        }
     }
 }
 
 /// A passage of an open row is waited for; the ages of any other next join those of its row.
-fn count_next(table: &mut Grid, missing: &mut Vec<u32>, opens: bool, next: &Next)
-    requires numbers { length missing.old.items ≡ 139392 }
-    requires small { slice_index missing.old.items (spot next.now) < 2 ^ 32 - 1 }
-    ensures counted { Counted opens next.now table.old table.new missing.old.items missing.new.items }
-    ensures below { spot next.now < 139392 }
+fn count_next(table: &mut Grid, missing: &mut Tally, opens: bool, follow: Follow, next: &Next)
+    requires placed { IsTrue (is_placed follow next.now.context.address next.now.context.x next.now.context.y) }
+    requires size { length table.old ≡ contexts follow }
+    requires numbers { length missing.old ≡ contexts follow }
+    requires small { slice_index missing.old (spot follow next.now) < 2 ^ 32 - 1 }
+    ensures counted { Counted follow opens next.now table.old table.new missing.old missing.new }
+    ensures below { spot follow next.now < contexts follow }
 {
-    let number = number_of(&next.context);
+    let number = number_of(follow, &next.context);
     if opens && next.passes {
-        missing[number] += 1;
+        missing.put(number, missing.at(number) + 1);
     } else {
         join(table, number, next.ages);
     }
@@ -104,9 +121,8 @@ fn count_next(table: &mut Grid, missing: &mut Vec<u32>, opens: bool, next: &Next
 
 /// Adds ages to the entry of a number.
 pub(crate) fn join(table: &mut Grid, number: usize, ages: Ages)
-    requires { number < 139392 }
-    ensures value { table.new ≡ slice_set table.old number (Present (join_into ages (at table.old number))) }
-    ensures size { length table.old ≡ 139392 }
+    requires { number < length table.old }
+    ensures { table.new ≡ slice_set table.old number (Present (join_into ages (at table.old number))) }
 {
     let joined = match table.at(number) {
         Entry::Absent => ages,

@@ -4,24 +4,25 @@ ghost use Rattle.pin_matrix.specs.declared.setup.Setup as setup;
 ghost use Rattle.pin_matrix.specs.declared.span.Span as span;
 ghost use Rattle.std.specs.List.{Contains};
 ghost use Rattle.span_step.specs.declared.ages.Ages as ages;
-ghost use Rattle.span_step.specs.Contexts as contexts;
+ghost use Rattle.pin_matrix.specs.declared.assume.Follow as follow;
+ghost use Rattle.span_step.specs.Contexts as places;
 ghost use Rattle.span_step.specs.Contexts.{is_placed};
 ghost use Rattle.span_bounds.specs.declared.entry.Entry.TheVariants.{Present};
 ghost use Rattle.span_bounds.specs.declared.row.Row as row;
-ghost use Rattle.span_bounds.specs.Numbers.{number_of, context_at};
+ghost use Rattle.span_bounds.specs.Numbers.{contexts, number_of, context_at};
 ghost use Rattle.span_bounds.specs.Tables.{IsLeast, IsTable, entry_at};
 
-/// A context in range has a number below 139,392, and is the one at its number.
+/// A context in range has a number below how many there are, and is the one at its number.
 pub fn each_context_has_its_number()
-    ensures below { (k : contexts.Context) → is_placed k.address k.x k.y ≡ true → number_of k < 139392 }
-    ensures context { (k : contexts.Context) → is_placed k.address k.x k.y ≡ true → context_at (number_of k) ≡ k }
-    ensures number { (n : ℕ) → number_of (context_at n) ≡ n }
+    ensures below { (d : follow.Follow) (k : places.Context) → is_placed d k.address k.x k.y ≡ true → number_of d k < contexts d }
+    ensures context { (d : follow.Follow) (k : places.Context) → is_placed d k.address k.x k.y ≡ true → context_at d (number_of d k) ≡ k }
+    ensures number { (d : follow.Follow) (n : ℕ) → number_of d (context_at d n) ≡ n }
 {}
 
 /// What a table says of a context is said by a row of it.
 pub fn each_entry_is_that_of_a_row()
-    ensures { (rows : List row.Row) (k : contexts.Context) (a : ages.Ages)
-        → IsTable rows → is_placed k.address k.x k.y ≡ true → entry_at rows (number_of k) ≡ Present a
+    ensures { (d : follow.Follow) (rows : List row.Row) (k : places.Context) (a : ages.Ages)
+        → IsTable d rows → is_placed d k.address k.x k.y ≡ true → entry_at d rows (number_of d k) ≡ Present a
         → Contains rows (record { context = k; ages = a }) }
 {}
 

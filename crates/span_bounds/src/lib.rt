@@ -19,6 +19,7 @@ mod stack;
 mod start;
 mod table;
 mod take;
+mod tally;
 
 pub use answer::derive;
 pub use derived::Derived;
@@ -28,6 +29,6 @@ pub use laws::{
 pub use number::number_of;
 pub use row::Row;
 pub use rows::Rows;
-pub use span_step::{Ages, Cause, Context, Next, step};
+pub use span_step::{Ages, Cause, Context, Next, Nexts, step};
 pub use start::start_context;
 pub use table::Table;

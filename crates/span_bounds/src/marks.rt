@@ -1,11 +1,11 @@
 //! Which contexts have a row, and in which of them ages are open.
-ghost use Rattle.std.specs.Prelude.{◌≡◌, ◌<◌, IfOk, length, replicate, slice_index_or, slice_set};
+ghost use Rattle.std.specs.Prelude.{◌≡◌, ◌<◌, ◌≤◌, IfOk, length, replicate, slice_index_or, slice_set};
 ghost use Rattle.span_bounds.specs.declared.entry.Entry.TheVariants.{Absent, Present};
+ghost use Rattle.span_bounds.specs.Edges.{EndsAt};
 ghost use Rattle.span_bounds.specs.Marks as spec;
 ghost use Rattle.span_bounds.specs.Reach.{zeroed};
 
 use crate::entry::Entry;
-use crate::number::CONTEXTS;
 use span_step::Ages;
 use std::alloc::{AllocError, Global};
 use std::marker::Model;
@@ -42,48 +42,62 @@ impl ContextMark {
     }
 }
 
-/// A mark for each context in order, 139,392 of them, seen as entries.
+/// A mark for each context in order, seen as entries. Those after the last that was put aren't written, and say that
+/// there is no row. It takes its memory when it is made, and none afterwards.
 #[derive(Drop)]
 pub(crate) struct Marks {
     marks: Vec<ContextMark>,
+    size: usize,
 }
 
 impl Model for Marks {
-    ghost use Rattle.std.specs.Prelude.{◌≡◌, List, length, map};
+    ghost use Rattle.std.specs.Prelude.{◌≤◌, List, length, vec_capacity};
     ghost use Rattle.span_bounds.specs.declared.entry.Entry.{Entry};
-    ghost use Rattle.span_bounds.specs.Marks.{marked};
+    ghost use Rattle.span_bounds.specs.Edges.{marked_out};
 
     ghost Value = { List Entry };
 
-    ghost view = { λ m. map marked m.marks.items };
+    ghost view = { λ m. marked_out m.size m.marks.items };
 
-    ghost invariant = { λ m. length m.marks.items ≡ 139392 };
+    ghost invariant = { λ m. (length m.marks.items ≤ m.size) × (m.size ≤ vec_capacity m.marks) };
 }
 
 impl Marks {
-    /// No rows.
-    pub(crate) fn new(alloc: Global) -> Result<Marks, AllocError>
-        ensures { IfOk result (λ marks. marks ≡ replicate 139392 Absent) }
+    /// No rows, of so many contexts.
+    pub(crate) fn new(alloc: Global, size: usize) -> Result<Marks, AllocError>
+        ensures { IfOk result (λ marks. marks ≡ replicate size Absent) }
     {
-        let marks = vec![in alloc; ContextMark::Absent; CONTEXTS]?;
-        Ok(Marks { marks })
+        let marks = Vec::with_capacity(alloc, size)?;
+        Ok(Marks { marks, size })
+    }
+
+    /// From which number on there are no rows.
+    pub(crate) fn end(&self) -> usize
+        ensures within { result ≤ length self.now }
+        ensures rest { EndsAt self.now result }
+    {
+        self.marks.len()
     }
 
     /// What they say of a context.
     pub(crate) fn at(&self, number: usize) -> Entry
-        requires { number < 139392 }
-        ensures value { result ≡ slice_index_or self.now number Absent }
-        ensures size { length self.now ≡ 139392 }
+        requires { number < length self.now }
+        ensures { result ≡ slice_index_or self.now number Absent }
     {
-        self.marks[number].entry()
+        match self.marks.get(number) {
+            Some(mark) => mark.entry(),
+            None => Entry::Absent,
+        }
     }
 
     /// Says something else of a context.
     pub(crate) fn put(&mut self, number: usize, mark: ContextMark)
-        requires { number < 139392 }
-        ensures value { self.new ≡ slice_set self.old number (spec.marked mark) }
-        ensures size { length self.old ≡ 139392 }
+        requires { number < length self.old }
+        ensures { self.new ≡ slice_set self.old number (spec.marked mark) }
     {
+        while self.marks.len() <= number {
+            self.marks.push(ContextMark::Absent).unwrap();
+        }
         self.marks[number] = mark;
     }
 }

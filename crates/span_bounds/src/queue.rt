@@ -13,6 +13,8 @@ pub(crate) struct Queue {
     heap: BinaryHeap<(u32, usize)>,
     /// All numbers from this on come once the heap is empty.
     rest: usize,
+    /// How many numbers there are.
+    end: usize,
     room: usize,
 }
 
@@ -26,6 +28,7 @@ impl Model for Queue {
     ghost view = { λ q. record {
       numbers = map (λ (p : ℕ × ℕ). p.1) (heap_items q.heap);
       rest = q.rest;
+      end = q.end;
       room = q.room;
     } };
 
@@ -33,14 +36,15 @@ impl Model for Queue {
 }
 
 impl Queue {
-    /// All numbers in order.
-    pub(crate) fn new(alloc: Global, room: usize) -> Result<Queue, AllocError>
-        ensures { IfOk result (λ queue. queue ≡ record { numbers = []; rest = 0; room = room }) }
+    /// All numbers below this in order.
+    pub(crate) fn new(alloc: Global, end: usize, room: usize) -> Result<Queue, AllocError>
+        ensures { IfOk result (λ queue. queue ≡ record { numbers = []; rest = 0; end = end; room = room }) }
     {
         let heap = BinaryHeap::with_capacity(alloc, room)?;
         Ok(Queue {
             heap,
             rest: 0,
+            end,
             room,
         })
     }
@@ -50,6 +54,7 @@ impl Queue {
         requires { length self.old.numbers < self.old.room }
         ensures more { IsMore number self.old.numbers self.new.numbers }
         ensures rest { self.new.rest ≡ self.old.rest }
+        ensures end { self.new.end ≡ self.old.end }
         ensures room { self.new.room ≡ self.old.room }
     {
         // The heap gives the greatest first.
@@ -61,16 +66,17 @@ impl Queue {
 
     /// Takes a number whose age is the least, or the first of the rest, if there is one.
     pub(crate) fn pop(&mut self) -> Option<usize>
-        ensures next { MatchOption result ((self.old.numbers ≡ []) × (139392 ≤ self.old.rest))
+        ensures next { MatchOption result ((self.old.numbers ≡ []) × (self.old.end ≤ self.old.rest))
             (λ number. ComesNext number self.old self.new) }
         ensures fewer { IfSome result (λ _. to_come self.new + 1 ≡ to_come self.old) }
+        ensures end { self.new.end ≡ self.old.end }
         ensures room { self.new.room ≡ self.old.room }
     {
         if let Some((_, number)) = self.heap.pop() {
             return Some(number);
         }
         let number = self.rest;
-        if number < 139_392 {
+        if number < self.end {
             self.rest = number + 1;
             Some(number)
         } else {

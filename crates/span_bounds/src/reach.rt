@@ -1,6 +1,7 @@
 //! The first sweep: which contexts have a row, and which rows are open.
-ghost use Rattle.std.specs.Prelude.{◌≡◌, ◌+◌, ◌<◌, ◌≤◌, ◌∷◌, [], IsSome, None, length, replicate, slice_index_or};
+ghost use Rattle.std.specs.Prelude.{◌≡◌, ◌+◌, ◌*◌, ◌<◌, ◌≤◌, ◌∷◌, [], IsSome, None, length, replicate, slice_index_or};
 ghost use Rattle.span_bounds.specs.Edges.{at};
+ghost use Rattle.span_bounds.specs.Numbers.{contexts_of};
 ghost use Rattle.span_bounds.specs.declared.entry.Entry.TheVariants.{Absent, Present};
 ghost use Rattle.span_bounds.specs.Reach as spec;
 ghost use Rattle.span_bounds.specs.Reach.{Sweep, IsReach, Raised, room};
@@ -12,7 +13,7 @@ use crate::row_step::row_step;
 use crate::stack::Stack;
 use crate::start::start_context;
 use pin_matrix::{Setup, Span};
-use span_step::Ages;
+use span_step::{Ages, Stepped};
 use std::sync::ledger::Ledger;
 use step_count::Steps;
 
@@ -25,13 +26,13 @@ pub(crate) fn reach<L: Ledger>(
     steps: &mut Steps<L>,
 )
     requires configured { IsSome (slice_index_or setup.now.machines span.now.machine None) }
-    requires grid { grid.old ≡ replicate 139392 Absent }
-    requires waiting { waiting.old ≡ [] }
+    requires grid { grid.old ≡ replicate (contexts_of span.now) Absent }
+    requires waiting { waiting.old ≡ record { numbers = []; room = 2 * contexts_of span.now } }
     ensures grid { IsReach setup.now span.now grid.new }
-    ensures waiting { waiting.new ≡ [] }
-    ensures steps { steps.new ≤ steps.old + 278784 }
+    ensures waiting { waiting.new ≡ record { numbers = []; room = 2 * contexts_of span.now } }
+    ensures steps { steps.new ≤ steps.old + 2 * contexts_of span.now }
 {
-    let start = number_of(&start_context(setup, span));
+    let start = number_of(span.assume.follow(), &start_context(setup, span));
     raise(grid, waiting, start, Ages::Empty);
     while let Some(number) = waiting.pop() {
         visit(setup, span, grid, waiting, number, steps);
@@ -48,11 +49,12 @@ fn visit<L: Ledger>(
     steps: &mut Steps<L>,
 )
     requires configured { IsSome (slice_index_or setup.now.machines span.now.machine None) }
-    requires number { number < 139392 }
-    requires sweep { Sweep setup.now span.now grid.old (number ∷ waiting.old) }
-    requires room { room grid.old + length waiting.old ≤ 278784 }
-    ensures sweep { Sweep setup.now span.now grid.new waiting.new }
-    ensures room { room grid.new + length waiting.new ≤ room grid.old + length waiting.old }
+    requires number { number < contexts_of span.now }
+    requires sweep { Sweep setup.now span.now grid.old (number ∷ waiting.old.numbers) }
+    requires room { room grid.old + length waiting.old.numbers ≤ waiting.old.room }
+    ensures sweep { Sweep setup.now span.now grid.new waiting.new.numbers }
+    ensures work { room grid.new + length waiting.new.numbers ≤ room grid.old + length waiting.old.numbers }
+    ensures room { waiting.new.room ≡ waiting.old.room }
     ensures steps { steps.new ≤ steps.old + 1 }
 {
     match grid.at(number) {
@@ -72,26 +74,36 @@ fn visit_row<L: Ledger>(
     steps: &mut Steps<L>,
 )
     requires configured { IsSome (slice_index_or setup.now.machines span.now.machine None) }
-    requires number { number < 139392 }
+    requires number { number < contexts_of span.now }
     requires entry { at grid.old number ≡ Present ages }
-    requires sweep { Sweep setup.now span.now grid.old (number ∷ waiting.old) }
-    requires room { room grid.old + length waiting.old ≤ 278784 }
-    ensures sweep { Sweep setup.now span.now grid.new waiting.new }
-    ensures room { room grid.new + length waiting.new ≤ room grid.old + length waiting.old }
+    requires sweep { Sweep setup.now span.now grid.old (number ∷ waiting.old.numbers) }
+    requires room { room grid.old + length waiting.old.numbers ≤ waiting.old.room }
+    ensures sweep { Sweep setup.now span.now grid.new waiting.new.numbers }
+    ensures work { room grid.new + length waiting.new.numbers ≤ room grid.old + length waiting.old.numbers }
+    ensures room { waiting.new.room ≡ waiting.old.room }
     ensures steps { steps.new ≤ steps.old + 1 }
 {
-    let stepped = row_step(setup, span, number, ages, steps);
-    for next in stepped.nexts.as_slice() {
-        raise(grid, waiting, number_of(&next.context), next.ages);
+    let mut stepped = Stepped::none();
+    row_step(setup, span, number, ages, steps, &mut stepped);
+    let follow = span.assume.follow();
+    if stepped.narrowing.is_wide() {
+        for next in stepped.ends.as_slice() {
+            raise(grid, waiting, number_of(follow, &next.context), next.ages);
+        }
+    } else {
+        let mut rest = stepped.nexts();
+        while let Some(later) = rest.next() {
+            raise(grid, waiting, number_of(follow, &later.context), later.ages);
+        }
     }
 }
 
 /// Raises the entry of a number to hold these ages; where it didn't, the number waits.
 fn raise(grid: &mut Marks, waiting: &mut Stack, number: usize, ages: Ages)
-    requires number { number < 139392 }
-    requires room { room grid.old + length waiting.old ≤ 278784 }
-    ensures raised { Raised number ages grid.old grid.new waiting.old waiting.new }
-    ensures size { length grid.old ≡ 139392 }
+    requires number { number < length grid.old }
+    requires room { room grid.old + length waiting.old.numbers ≤ waiting.old.room }
+    ensures raised { Raised number ages grid.old grid.new waiting.old.numbers waiting.new.numbers }
+    ensures room { waiting.new.room ≡ waiting.old.room }
 {
     if !holds(ages, grid.at(number)) {
         waiting.push(number);

@@ -3,11 +3,13 @@ use crate::entry::Entry;
 use crate::grid::Grid;
 use crate::number::context_at;
 use crate::row::Row;
+use pin_matrix::Follow;
 use std::marker::Model;
 
 /// The rows that are left to come, in context order.
 #[derive(Drop)]
 pub struct Rows<'a> {
+    follow: Follow,
     grid: &'a Grid,
     number: usize,
     end: usize,
@@ -16,25 +18,28 @@ pub struct Rows<'a> {
 impl<'a> Model for Rows<'a> {
     ghost use Rattle.std.specs.Prelude.{◌≡◌, ◌≤◌, List, drop, length};
     ghost use Rattle.span_bounds.specs.declared.row.Row.{Row};
+    ghost use Rattle.span_bounds.specs.Numbers.{contexts};
     ghost use Rattle.span_bounds.specs.Tables.{rows_from};
 
     ghost Value = { List Row };
 
-    ghost view = { λ r. rows_from r.number (drop r.number r.grid.now) };
+    ghost view = { λ r. rows_from r.follow r.number (drop r.number r.grid.now) };
 
-    ghost invariant = { λ r. (r.number ≤ r.end) × ((r.end ≡ 139392) × (length r.grid.now ≡ 139392)) };
+    ghost invariant = { λ r. (r.number ≤ r.end) × ((r.end ≡ length r.grid.now) × (length r.grid.now ≡ contexts r.follow)) };
 }
 
 impl<'a> Rows<'a> {
     ghost use Rattle.std.specs.Prelude.{◌≡◌, length};
+    ghost use Rattle.span_bounds.specs.Numbers.{contexts};
     ghost use Rattle.span_bounds.specs.Tables.{rows_from};
 
     /// All rows of a table.
-    pub(crate) fn of(grid: &'a Grid) -> Rows<'a>
-        ensures rows { result ≡ rows_from 0 grid.now }
-        ensures size { length grid.now ≡ 139392 }
+    pub(crate) fn of(follow: Follow, grid: &'a Grid) -> Rows<'a>
+        requires { length grid.now ≡ contexts follow }
+        ensures { result ≡ rows_from follow 0 grid.now }
     {
         Rows {
+            follow,
             grid,
             number: 0,
             end: grid.len(),
@@ -57,7 +62,7 @@ impl<'a> Iterator for Rows<'a> {
             self.number += 1;
             if let Entry::Present(ages) = self.grid.at(number) {
                 return Some(Row {
-                    context: context_at(number),
+                    context: context_at(self.follow, number),
                     ages,
                 });
             }

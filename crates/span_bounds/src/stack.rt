@@ -4,44 +4,52 @@ ghost use Rattle.std.specs.Prelude.{◌≡◌, ◌<◌, ◌+◌, [], ◌∷◌, 
 use std::alloc::{AllocError, Global};
 use std::marker::Model;
 
-/// A stack of numbers with room for 278,784, each context's twice. It takes its memory when it is made, and none afterwards.
+/// A stack of numbers with room for so many. It takes its memory when it is made, and none afterwards.
 #[derive(Drop)]
 pub(crate) struct Stack {
     numbers: Vec<usize>,
+    room: usize,
 }
 
 impl Model for Stack {
-    ghost use Rattle.std.specs.Prelude.{List, ℕ, ◌≤◌, vec_capacity};
+    ghost use Rattle.std.specs.Prelude.{◌≤◌, vec_capacity};
+    ghost use Rattle.span_bounds.specs.Stacks.{Stacked};
 
-    ghost Value = { List ℕ };
+    ghost Value = { Stacked };
 
-    ghost view = { λ s. s.numbers.items };
+    ghost view = { λ s. record {
+      numbers = s.numbers.items;
+      room = s.room;
+    } };
 
-    ghost invariant = { λ s. 278784 ≤ vec_capacity s.numbers };
+    ghost invariant = { λ s. s.room ≤ vec_capacity s.numbers };
 }
 
 impl Stack {
     /// No numbers.
-    pub(crate) fn new(alloc: Global) -> Result<Stack, AllocError>
-        ensures { IfOk result (λ stack. stack ≡ []) }
+    pub(crate) fn new(alloc: Global, room: usize) -> Result<Stack, AllocError>
+        ensures { IfOk result (λ stack. stack ≡ record { numbers = []; room = room }) }
     {
-        let numbers = Vec::with_capacity(alloc, 278_784)?;
-        Ok(Stack { numbers })
+        let numbers = Vec::with_capacity(alloc, room)?;
+        Ok(Stack { numbers, room })
     }
 
     /// One number more.
     pub(crate) fn push(&mut self, number: usize)
-        requires { length self.old < 278784 }
-        ensures { self.new ≡ self.old ++ number ∷ [] }
+        requires { length self.old.numbers < self.old.room }
+        ensures numbers { self.new.numbers ≡ self.old.numbers ++ number ∷ [] }
+        ensures room { self.new.room ≡ self.old.room }
     {
         self.numbers.push(number).unwrap();
     }
 
     /// Takes the last number, if there is one.
     pub(crate) fn pop(&mut self) -> Option<usize>
-        ensures items { MatchOption result ((self.old ≡ []) × (self.new ≡ []))
-            (λ number. self.old ≡ self.new ++ number ∷ []) }
-        ensures shorter { MatchOption result (length self.old ≡ 0) (λ _. length self.new + 1 ≡ length self.old) }
+        ensures items { MatchOption result ((self.old.numbers ≡ []) × (self.new.numbers ≡ []))
+            (λ number. self.old.numbers ≡ self.new.numbers ++ number ∷ []) }
+        ensures shorter { MatchOption result (length self.old.numbers ≡ 0)
+            (λ _. length self.new.numbers + 1 ≡ length self.old.numbers) }
+        ensures room { self.new.room ≡ self.old.room }
     {
         self.numbers.pop()
     }

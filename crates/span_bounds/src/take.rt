@@ -1,6 +1,8 @@
 //! The third sweep: a row that waits for no passage is taken, and its ages are final then.
-ghost use Rattle.std.specs.Prelude.{◌≡◌, ◌+◌, ◌<◌, ◌≤◌, ◌∷◌, [], true, IsSome, None, length, slice_index, slice_index_or};
+ghost use Rattle.std.specs.Prelude.{◌≡◌, ◌+◌, ◌*◌, ◌<◌, ◌≤◌, ◌∷◌, [], true, IsSome, IsTrue, None, length, slice_index, slice_index_or};
 ghost use Rattle.span_bounds.specs.Edges.{at, spot};
+ghost use Rattle.span_bounds.specs.Numbers.{contexts, contexts_of};
+ghost use Rattle.span_step.specs.Contexts.{is_placed};
 ghost use Rattle.span_bounds.specs.Reach.{IsReach};
 ghost use Rattle.span_bounds.specs.Count.{Count};
 ghost use Rattle.span_bounds.specs.Sums as sums;
@@ -14,8 +16,9 @@ use crate::marks::{ContextMark, Marks};
 use crate::number::number_of;
 use crate::row_step::row_step;
 use crate::stack::Stack;
-use pin_matrix::{Setup, Span};
-use span_step::{Ages, Next};
+use crate::tally::Tally;
+use pin_matrix::{Follow, Setup, Span};
+use span_step::{Ages, Next, Stepped};
 use std::sync::ledger::Ledger;
 use step_count::Steps;
 
@@ -26,16 +29,16 @@ pub(crate) fn take<L: Ledger>(
     span: &Span,
     left: &mut Marks,
     table: &mut Grid,
-    missing: &mut Vec<u32>,
+    missing: &mut Tally,
     ready: &mut Stack,
     steps: &mut Steps<L>,
 )
     requires configured { IsSome (slice_index_or setup.now.machines span.now.machine None) }
     requires reach { IsReach setup.now span.now left.old }
-    requires counted { Count setup.now span.now left.old table.old missing.old.items 139392 }
-    requires ready { ready.old ≡ [] }
+    requires counted { Count setup.now span.now left.old table.old missing.old (contexts_of span.now) }
+    requires ready { ready.old ≡ record { numbers = []; room = 2 * contexts_of span.now } }
     ensures taken { IsTaken setup.now span.now left.new table.new }
-    ensures steps { steps.new ≤ steps.old + 139392 }
+    ensures steps { steps.new ≤ steps.old + contexts_of span.now }
 {
     add_ready(left, missing, ready);
     while let Some(number) = ready.pop() {
@@ -44,22 +47,26 @@ pub(crate) fn take<L: Ledger>(
 }
 
 /// Adds the open rows that wait for none.
-fn add_ready(left: &Marks, missing: &Vec<u32>, ready: &mut Stack)
-    requires numbers { length missing.now.items ≡ 139392 }
-    requires ready { ready.old ≡ [] }
-    ensures { AreReady left.now missing.now.items ready.new 139392 }
+fn add_ready(left: &Marks, missing: &Tally, ready: &mut Stack)
+    requires numbers { length missing.now ≡ length left.now }
+    requires ready { ready.old.numbers ≡ [] }
+    requires room { length left.now ≤ ready.old.room }
+    ensures ready { AreReady left.now missing.now ready.new.numbers (length left.now) }
+    ensures room { ready.new.room ≡ ready.old.room }
 {
-    for number in 0..139_392 {
+    for number in 0..left.end() {
         add_if_ready(left, missing, ready, number);
     }
 }
 
 /// Adds a number if its row is left and waits for none.
-fn add_if_ready(left: &Marks, missing: &Vec<u32>, ready: &mut Stack, number: usize)
-    requires number { number < 139392 }
-    requires numbers { length missing.now.items ≡ 139392 }
-    requires before { AreReady left.now missing.now.items ready.old number }
-    ensures { AreReady left.now missing.now.items ready.new (number + 1) }
+fn add_if_ready(left: &Marks, missing: &Tally, ready: &mut Stack, number: usize)
+    requires number { number < length left.now }
+    requires numbers { length missing.now ≡ length left.now }
+    requires room { length left.now ≤ ready.old.room }
+    requires before { AreReady left.now missing.now ready.old.numbers number }
+    ensures ready { AreReady left.now missing.now ready.new.numbers (number + 1) }
+    ensures room { ready.new.room ≡ ready.old.room }
 {
     if is_ready(left, missing, number) {
         ready.push(number);
@@ -67,12 +74,12 @@ fn add_if_ready(left: &Marks, missing: &Vec<u32>, ready: &mut Stack, number: usi
 }
 
 /// Whether a number's row is left and waits for none.
-fn is_ready(left: &Marks, missing: &Vec<u32>, number: usize) -> bool
-    requires number { number < 139392 }
-    requires numbers { length missing.now.items ≡ 139392 }
-    ensures { result ≡ spec.is_ready left.now missing.now.items number }
+fn is_ready(left: &Marks, missing: &Tally, number: usize) -> bool
+    requires number { number < length left.now }
+    requires numbers { length missing.now ≡ length left.now }
+    ensures { result ≡ spec.is_ready left.now missing.now number }
 {
-    is_open(left.at(number)) && missing[number] == 0
+    is_open(left.at(number)) && missing.at(number) == 0
 }
 
 /// Whether ages are open at an entry.
@@ -91,17 +98,19 @@ fn take_number<L: Ledger>(
     span: &Span,
     left: &mut Marks,
     table: &mut Grid,
-    missing: &mut Vec<u32>,
+    missing: &mut Tally,
     ready: &mut Stack,
     number: usize,
     steps: &mut Steps<L>,
 )
     requires configured { IsSome (slice_index_or setup.now.machines span.now.machine None) }
-    requires number { number < 139392 }
-    requires takes { IsTaking setup.now span.now left.old table.old missing.old.items (number ∷ ready.old) }
-    requires room { work_left missing.old.items ready.old ≤ 139392 }
-    ensures takes { IsTaking setup.now span.now left.new table.new missing.new.items ready.new }
-    ensures work { work_left missing.new.items ready.new ≤ work_left missing.old.items ready.old }
+    requires number { number < contexts_of span.now }
+    requires takes { IsTaking setup.now span.now left.old table.old missing.old (number ∷ ready.old.numbers) }
+    requires room { work_left missing.old ready.old.numbers ≤ contexts_of span.now }
+    requires space { contexts_of span.now < ready.old.room }
+    ensures takes { IsTaking setup.now span.now left.new table.new missing.new ready.new.numbers }
+    ensures work { work_left missing.new ready.new.numbers ≤ work_left missing.old ready.old.numbers }
+    ensures space { ready.new.room ≡ ready.old.room }
     ensures steps { steps.new ≤ steps.old + 1 }
 {
     if is_ready(left, missing, number) {
@@ -118,32 +127,43 @@ fn take_row<L: Ledger>(
     span: &Span,
     left: &mut Marks,
     table: &mut Grid,
-    missing: &mut Vec<u32>,
+    missing: &mut Tally,
     ready: &mut Stack,
     number: usize,
     ages: Ages,
     steps: &mut Steps<L>,
 )
     requires configured { IsSome (slice_index_or setup.now.machines span.now.machine None) }
-    requires number { number < 139392 }
-    requires is_ready { spec.is_ready left.old missing.old.items number ≡ true }
+    requires number { number < contexts_of span.now }
+    requires is_ready { spec.is_ready left.old missing.old number ≡ true }
     requires ages { ages ≡ spec.ages_or_none (at table.old number) }
-    requires takes { IsTaking setup.now span.now left.old table.old missing.old.items (number ∷ ready.old) }
-    requires room { work_left missing.old.items ready.old ≤ 139392 }
-    ensures takes { IsTaking setup.now span.now left.new table.new missing.new.items ready.new }
-    ensures work { work_left missing.new.items ready.new ≤ work_left missing.old.items ready.old }
+    requires takes { IsTaking setup.now span.now left.old table.old missing.old (number ∷ ready.old.numbers) }
+    requires room { work_left missing.old ready.old.numbers ≤ contexts_of span.now }
+    requires space { contexts_of span.now < ready.old.room }
+    ensures takes { IsTaking setup.now span.now left.new table.new missing.new ready.new.numbers }
+    ensures work { work_left missing.new ready.new.numbers ≤ work_left missing.old ready.old.numbers }
+    ensures space { ready.new.room ≡ ready.old.room }
     ensures steps { steps.new ≤ steps.old + 1 }
 {
     left.put(number, ContextMark::Absent);
-    let stepped = row_step(setup, span, number, ages, steps);
-    for next in stepped.nexts.as_slice() {
-        pass(table, missing, ready, number_of(&next.context), next);
+    let mut stepped = Stepped::none();
+    row_step(setup, span, number, ages, steps, &mut stepped);
+    let follow = span.assume.follow();
+    if stepped.narrowing.is_wide() {
+        for next in stepped.ends.as_slice() {
+            pass(table, missing, ready, follow, next);
+        }
+    } else {
+        let mut rest = stepped.nexts();
+        while let Some(later) = rest.next() {
+            pass(table, missing, ready, follow, &later);
+        }
     }
 }
 
 /// The ages of a number's row, none where there is no row.
 pub(crate) fn ages_at(table: &Grid, number: usize) -> Ages
-    requires { number < 139392 }
+    requires { number < length table.now }
     ensures { result ≡ spec.ages_or_none (at table.now number) }
 {
     match table.at(number) {
@@ -153,19 +173,22 @@ pub(crate) fn ages_at(table: &Grid, number: usize) -> Ages
 }
 
 /// Where a next is passed to, its ages join those of its row, which waits for one less.
-fn pass(table: &mut Grid, missing: &mut Vec<u32>, ready: &mut Stack, number: usize, next: &Next)
-    requires number { number ≡ spot next.now }
-    requires below { number < 139392 }
-    requires numbers { length missing.old.items ≡ 139392 }
-    requires some { next.now.passes ≡ true → 1 ≤ slice_index missing.old.items (spot next.now) }
-    requires room { length ready.old ≤ 139392 }
-    ensures { Passed next.now table.old table.new missing.old.items missing.new.items ready.old ready.new }
+fn pass(table: &mut Grid, missing: &mut Tally, ready: &mut Stack, follow: Follow, next: &Next)
+    requires placed { IsTrue (is_placed follow next.now.context.address next.now.context.x next.now.context.y) }
+    requires size { length table.old ≡ contexts follow }
+    requires numbers { length missing.old ≡ length table.old }
+    requires some { next.now.passes ≡ true → 1 ≤ slice_index missing.old (spot follow next.now) }
+    requires room { length ready.old.numbers < ready.old.room }
+    ensures passed { Passed follow next.now table.old table.new missing.old missing.new ready.old.numbers ready.new.numbers }
+    ensures room { ready.new.room ≡ ready.old.room }
 {
     if next.passes {
+        let number = number_of(follow, &next.context);
         join(table, number, next.ages);
-        if missing[number] == 1 {
+        let left = missing.at(number);
+        if left == 1 {
             ready.push(number);
         }
-        missing[number] -= 1;
+        missing.put(number, left - 1);
     }
 }

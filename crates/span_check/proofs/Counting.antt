@@ -2,7 +2,7 @@
 use Rattle.std.proofs.Common.{◌≡◌, ℕ, zero, suc, ◌+◌, ◌<◌, ◌≤◌, nat_lt, Bool, true, false, ◌⊎◌, inl, inr, cond, refl, sym, subst, arith}
 use Rattle.std.proofs.lemmas.Bool.Decides.{nat_tests}
 use Rattle.span_check.specs.Marks.{Mark}
-use Rattle.span_check.specs.Holding.{counted, IsQuiet, IsUnexcused}
+use Rattle.span_check.specs.Holding.{counted, IsAssumed, IsQuiet, IsUnexcused}
 
 -- 1 where it is so
 abbrev pub one_if : Bool → ℕ
@@ -36,6 +36,9 @@ quiet-before m s c h d after before = h d after (omega arith)
 
 pub free-before : (m : ℕ → Mark) (s c : ℕ) → IsUnexcused m s (suc c) → IsUnexcused m s c
 free-before m s c h d after before = h d after (omega arith)
+
+pub assumed-before : (m : ℕ → Mark) (c : ℕ) → IsAssumed m (suc c) → IsAssumed m c
+assumed-before m c h f d misses from before = h f d misses from (omega (arith, before))
 
 -- what holds of each from-edge before clock c that is open there and spoken of
 abbrev pub AreOpen : (ℕ → Mark) → (ℕ → Type 0) → ℕ → Type 0

@@ -59,7 +59,7 @@ ends-hold = record {
 
 ends-spoken : IsSpokenOf Ticks ends 6 8
 unfolding ends
-ends-spoken = (plain_spoken _ _ _ _ _ Ticks 6 8 (record { waits = refl; leaves = refl })).1 tt
+ends-spoken = (plain_spoken _ _ _ _ _ Ticks 6 8 (record { waits = refl; leaves = refl; assumes = refl })).1 tt
 
 ends-early : HoldsFrom Ticks 2 (Some 9) ends 8 6 → ⊥
 ends-early h = omega (

@@ -1,5 +1,6 @@
 -- The law of this crate, by what the laws of the crates below say.
 use Rattle.std.proofs.Common.{◌≡◌, ℕ, List, Option, Some, None, IsSome, slice_index_or, refl, ap, sym, subst, ◌∙◌}
+use Rattle.pin_matrix.specs.Followed.{followed}
 use Rattle.pin_matrix.specs.declared.machine.MachineSetup.{MachineSetup}
 use Rattle.pin_matrix.specs.declared.setup.Setup.{Setup}
 use Rattle.pin_matrix.specs.declared.span.Span.{Span}
@@ -40,7 +41,7 @@ holds_over : (laws : Laws) (u : Setup) (sp : Span) → IsSome (slice_index_or u.
 holds_over laws u sp some p alone seen host states begins follows n =
     let machine = configured-as (slice_index_or u.machines sp.machine None) some in
     let s = machine.0 in
-    by_unit laws u sp (rows_of p.rows) s seen host states
+    by_unit laws u sp (rows_of (followed sp) p.rows) s seen host states
     (beside laws u sp s machine.1 alone seen host states begins follows p.rows (sound_table laws u sp p.rows p.table p.closed p.good) p.closed.starts)
     (run_of laws u sp s machine.1 alone seen host states begins follows) n sp.unit refl
 

@@ -1,5 +1,5 @@
 -- Rows of what it means that a span holds, worked by hand on the marks of some clocks, and of which lines break one.
-use Rattle.std.proofs.Common.{◌≡◌, ℕ, zero, suc, ◌-◌, ◌<◌, ◌≤◌, ◌==◌, Bool, true, false, Some, None, IsSome, [], ◌∷◌, map, refl, subst, arith}
+use Rattle.std.proofs.Common.{◌≡◌, ℕ, zero, suc, ◌-◌, ◌<◌, ◌≤◌, ◌==◌, nat_le, Bool, true, false, Some, None, IsSome, [], ◌∷◌, map, refl, sym, ◌∙◌, subst, arith}
 use Rattle.std.proofs.lemmas.Bool.Decides.{nat_tests}
 use Rattle.pin_matrix.specs.declared.span.SpanUnit.{SpanUnit}
 use Rattle.pin_matrix.specs.declared.span.SpanUnit.TheVariants.{Ticks, Clocks}
@@ -7,17 +7,21 @@ use Rattle.dreq_pacing.specs.declared.due.Due.{Due}
 use Rattle.dreq_pacing.specs.declared.line.LineAct.TheVariants.{Pin, Tx, Rx, Feed, Drain, Enable, Disable, Restart}
 use Rattle.dreq_pacing.specs.Due.{quiet}
 use Rattle.span_check.specs.Marks.{Mark, is_broken}
-use Rattle.span_check.specs.Holding.{counted, IsQuiet, IsFirstToEdge, IsUnbroken, IsUnbrokenIn, IsSpokenOf, Holds, HoldsFrom}
+use Rattle.span_check.specs.Holding.{counted, IsQuiet, IsFirstToEdge, IsAssumed, IsUnbroken, IsUnbrokenIn, IsSpokenOf, Holds, HoldsFrom}
 use Rattle.span_check.specs.Runs.{is_breaking}
 
 -- The from-edge comes in clock 2, and the to-edge in clock 4. Each clock has a tick that counts. These clocks have a line that breaks
 -- the span, and these a late tick at an address that it doesn't name.
 abbrev marks : (breaks strays : ℕ → Bool) → ℕ → Mark
-marks breaks strays c = record { from = c == 2; to = c == 4; counts = true; strays = strays c; breaks = breaks c; excused = false }
+marks breaks strays c = record { from = c == 2; to = c == 4; counts = true; strays = strays c; breaks = breaks c; excused = false; misses = false; rested = true }
+
+-- none misses what is assumed
+none_missed : (m : ℕ → Mark) (end : ℕ) → ((c : ℕ) → (m c).misses ≡ false) → IsAssumed m end
+none_missed m end none f c misses from before = let e : false ≡ true = sym (none f) ∙ misses in cc
 
 -- none is excused
 spoken_row : (breaks strays : ℕ → Bool) (unit : SpanUnit) (end : ℕ) → IsUnbrokenIn unit (marks breaks strays) 2 end → IsSpokenOf unit (marks breaks strays) 2 end
-spoken_row breaks strays unit end h = record { free = λ c after before. refl; unbroken = h }
+spoken_row breaks strays unit end h = record { free = λ c after before. refl; assumed = none_missed (marks breaks strays) end (λ c. refl); unbroken = h }
 
 abbrev nowhere : ℕ → Bool
 nowhere c = false
@@ -114,7 +118,7 @@ early_in_clocks_freely holds = omega (arith, (holds 2 (omega arith) refl).least 
 -- The from-edge comes in clock 2, and no to-edge; in clock 6 the machine excuses it. Up to any clock this holds without a greatest bound, whatever the least; with at
 -- most 2 it doesn't up to clock 6, when three ticks and clocks have gone by.
 abbrev endless : ℕ → Mark
-endless c = record { from = c == 2; to = false; counts = true; strays = false; breaks = false; excused = c == 6 }
+endless c = record { from = c == 2; to = false; counts = true; strays = false; breaks = false; excused = c == 6; misses = false; rested = true }
 
 never_true : false ≡ true → ⊥
 never_true e = cc
@@ -135,10 +139,10 @@ free_until_6 : (c : ℕ) → 2 < c → c < 6 → (endless c).excused ≡ false
 free_until_6 c after before = let e : (c == 6) ≡ false = grind (arith, nat_tests, before) in e
 
 endless_in_ticks : Holds Ticks 0 (Some 2) endless 6 → ⊥
-endless_in_ticks holds = omega (arith, (holds 2 (omega arith) refl).unclosed (λ c after before. refl) (record { free = free_until_6; unbroken = tt }), three_row)
+endless_in_ticks holds = omega (arith, (holds 2 (omega arith) refl).unclosed (λ c after before. refl) (record { free = free_until_6; assumed = none_missed endless 6 (λ c. refl); unbroken = tt }), three_row)
 
 endless_in_clocks : Holds Clocks 0 (Some 2) endless 6 → ⊥
-endless_in_clocks holds = omega (arith, (holds 2 (omega arith) refl).unclosed (λ c after before. refl) (record { free = free_until_6; unbroken = λ c after before. refl }))
+endless_in_clocks holds = omega (arith, (holds 2 (omega arith) refl).unclosed (λ c after before. refl) (record { free = free_until_6; assumed = none_missed endless 6 (λ c. refl); unbroken = λ c after before. refl }))
 
 -- up to clock 7 nothing is said of it
 endless_excused : (unit : SpanUnit) → IsSpokenOf unit endless 2 7 → ⊥
@@ -146,7 +150,7 @@ endless_excused unit spoken = let e = spoken.free 6 (omega arith) (omega arith) 
 
 -- The from-edge comes in clock 2 and the to-edge in clock 4, and the machine excuses from-edges in this clock.
 abbrev excusing : (clock : ℕ) → ℕ → Mark
-excusing clock c = record { from = c == 2; to = c == 4; counts = true; strays = false; breaks = false; excused = c == clock }
+excusing clock c = record { from = c == 2; to = c == 4; counts = true; strays = false; breaks = false; excused = c == clock; misses = false; rested = true }
 
 -- in the clock after the from-edge, and in that of the to-edge: nothing is said of it
 excused_between : (unit : SpanUnit) → IsSpokenOf unit (excusing 3) 2 5 → ⊥
@@ -172,7 +176,7 @@ excused_before holds =
     omega (
       arith,
       (holds 2 (omega arith) refl).least 4 (record { after = omega arith; first = quiet_row 2; edge = refl }) (omega arith)
-          (record { free = not_between (λ c. (excusing 2 c).excused ≡ false) refl refl; unbroken = λ c after before. refl }),
+          (record { free = not_between (λ c. (excusing 2 c).excused ≡ false) refl refl; assumed = none_missed (excusing 2) 5 (λ c. refl); unbroken = λ c after before. refl }),
     )
 
 excused_after : Holds Clocks 3 (Some 9) (excusing 5) 5 → ⊥
@@ -180,7 +184,61 @@ excused_after holds =
     omega (
       arith,
       (holds 2 (omega arith) refl).least 4 (record { after = omega arith; first = quiet_row 5; edge = refl }) (omega arith)
-          (record { free = not_between (λ c. (excusing 5 c).excused ≡ false) refl refl; unbroken = λ c after before. refl }),
+          (record { free = not_between (λ c. (excusing 5 c).excused ≡ false) refl refl; assumed = none_missed (excusing 5) 5 (λ c. refl); unbroken = λ c after before. refl }),
+    )
+
+-- The from-edge comes in clock 2 and the to-edge in clock 4. In one clock an instruction leaves X or Y otherwise than assumed, and
+-- from one clock on no delay is left.
+abbrev missing : (clock rests : ℕ) → ℕ → Mark
+missing clock rests c = record { from = c == 2; to = c == 4; counts = true; strays = false; breaks = false; excused = false; misses = c == clock; rested = nat_le rests c }
+
+missing_before_4 : (clock rests c : ℕ) → 2 < c → c < 4 → (missing clock rests c).to ≡ false
+missing_before_4 clock rests c after before = let e : c ≡ 3 = omega (arith, after, before) in rw e refl
+
+missing_first : (clock rests : ℕ) → IsFirstToEdge (missing clock rests) 2 4
+missing_first clock rests = record { after = omega arith; first = missing_before_4 clock rests; edge = refl }
+
+-- until the delay is over it is spoken of
+missing_spoken : (clock rests end : ℕ) → end ≤ rests → IsSpokenOf Clocks (missing clock rests) 2 end
+missing_spoken clock rests end within = record {
+  free = λ c after before. refl;
+  assumed = λ f c misses from before. let e : nat_le rests c ≡ false = grind (arith, nat_tests, within, before) in e;
+  unbroken = λ c after before. refl;
+}
+
+-- a delay that is over in clock 5: of the to-edge in clock 4 it is asked that it isn't too early, nor too late
+missed_and_closed_early : Holds Clocks 3 (Some 9) (missing 3 5) 5 → ⊥
+missed_and_closed_early holds = omega (arith, (holds 2 (omega arith) refl).least 4 (missing_first 3 5) (omega arith) (missing_spoken 3 5 5 (omega arith)))
+
+missed_and_closed_late : Holds Clocks 0 (Some 1) (missing 3 5) 5 → ⊥
+missed_and_closed_late holds = omega (arith, (holds 2 (omega arith) refl).most 4 (missing_first 3 5) (omega arith) (missing_spoken 3 5 5 (omega arith)))
+
+-- one that is over in clock 4, in which the to-edge comes: nothing is said of it
+missed_before : (unit : SpanUnit) → IsSpokenOf unit (missing 3 4) 2 5 → ⊥
+missed_before unit spoken = let e = spoken.assumed 3 4 refl (omega arith) (omega arith) in cc
+
+-- but of the time up to clock 4 it is
+missed_and_open : Holds Clocks 0 (Some 0) (missing 3 4) 4 → ⊥
+missed_and_open holds = omega (arith, (holds 2 (omega arith) refl).unclosed (missing_before_4 3 4) (missing_spoken 3 4 4 (omega arith)))
+
+-- without a delay nothing is said from the clock of the instruction on, be it before the from-edge
+missed_at_once : (unit : SpanUnit) → IsSpokenOf unit (missing 3 3) 2 4 → ⊥
+missed_at_once unit spoken = let e = spoken.assumed 3 3 refl (omega arith) (omega arith) in cc
+
+missed_earlier : (unit : SpanUnit) → IsSpokenOf unit (missing 1 1) 2 5 → ⊥
+missed_earlier unit spoken = let e = spoken.assumed 1 1 refl (omega arith) (omega arith) in cc
+
+-- an instruction that does so after the to-edge changes nothing
+missed_after : Holds Clocks 3 (Some 9) (missing 5 0) 5 → ⊥
+missed_after holds =
+    omega (
+      arith,
+      (holds 2 (omega arith) refl).least 4 (missing_first 5 0) (omega arith)
+          (record {
+            free = λ c after before. refl;
+            assumed = λ f c misses from before. absurd (let e : 5 ≡ f = same f 5 misses in omega (arith, e, from, before));
+            unbroken = λ c after before. refl;
+          }),
     )
 
 -- of the lines that name machine 1 a disable and a restart break its spans, and no other line does

@@ -18,9 +18,9 @@ use Rattle.span_step.specs.Contexts.{Context}
 use Rattle.span_step.specs.Steps.{bounds_of, bounds_in, least_ticks, most_or, most_ticks, period_of}
 use Rattle.span_ticks.specs.UnderWay.{flow_of, is_excused_in}
 use Rattle.span_check.specs.Marks.{Mark, names, mark_of, excused_at}
-use Rattle.span_check.specs.Holding.{counted, IsQuiet, IsUnbroken, IsUnexcused, IsSpokenOf, Holds, IsUpTo}
+use Rattle.span_check.specs.Holding.{counted, IsAssumed, IsQuiet, IsUnbroken, IsUnexcused, IsSpokenOf, Holds, IsUpTo}
 use Rattle.span_check.specs.Runs.{marks_over}
-use Rattle.span_check.proofs.Counting.{counted-suc, free-before}
+use Rattle.span_check.proofs.Counting.{counted-suc, assumed-before, free-before}
 use Rattle.span_check.proofs.Periods.{no-more, no-less}
 use Rattle.span_check.proofs.Premises.{Laws}
 use Rattle.span_check.proofs.Walk.{IsBeside, there, fine}
@@ -73,25 +73,25 @@ holds-clocks laws u sp rows s seen host states b run unit n =
     let none = none-named sp unit in
     let at_pace : (f c : ℕ) → f < c → (marks f).from ≡ true → IsUnbroken marks f c → IsPaced sp period marks f (states c) c =
     paced laws sp period long none u.memory seen host states run in
-    let open_room : (most : ℕ) → sp.max ≡ Some most → (f c : ℕ) → f < c → (marks f).from ≡ true → IsQuiet marks f c → IsUnexcused marks f (suc c) → counted marks f c + 1 ≤ most_ticks period most = λ most is f c below edge quiet free.
-    let at = there laws u sp rows s seen host states b c in
+    let open_room : (most : ℕ) → sp.max ≡ Some most → (f c : ℕ) → f < c → (marks f).from ≡ true → IsQuiet marks f c → IsUnexcused marks f (suc c) → IsAssumed marks (suc c) → counted marks f c + 1 ≤ most_ticks period most = λ most is f c below edge quiet free assumed.
+    let at = there laws u sp rows s seen host states b c (assumed-before marks c assumed) in
     let r = at.m.machine.registers in
     let now : is_excused_in sp (flow_of r) ≡ false = sym (stands sp u.memory (seen c) (host c) (states c) (states (suc c)) at.m at.going.slot) ∙ free c below (omega arith) in
     let room : counted marks f c + 1 ≤ most_or (least_ticks sp.min period) (option_map (most_ticks period) sp.max) = subst (λ (x : ℕ × ℕ). counted marks f c + 1 ≤ x.1) bounds
-    (laws.room u sp rows s r at.w b.configured b.sound (ap is_some is) none now at.going.under_way _ (at.ages f below edge quiet (free-before marks f c free)).0) in
+    (laws.room u sp rows s r at.kept at.w b.configured b.sound (ap is_some is) none now at.going.under_way _ (at.ages f below edge quiet (free-before marks f c free)).0) in
     subst (λ (x : Option ℕ). counted marks f c + 1 ≤ most_or (least_ticks sp.min period) (option_map (most_ticks period) x)) is room in
     let within : (most : ℕ) → sp.max ≡ Some most → (f c : ℕ) → f < c → (marks f).from ≡ true → IsQuiet marks f c → IsSpokenOf Clocks marks f (suc c) → c ≤ f + most = λ most is f c below edge quiet spoken.
-    in-time sp period most f c n marks (states c) long (at_pace f c below edge (λ d after less. spoken.unbroken d after (omega (arith, less)))) (open_room most is f c below edge quiet spoken.free) in
+    in-time sp period most f c n marks (states c) long (at_pace f c below edge (λ d after less. spoken.unbroken d after (omega (arith, less)))) (open_room most is f c below edge quiet spoken.free spoken.assumed) in
     λ f below edge. record {
       least = λ e ends inside spoken.
-          let each = fine laws u sp rows s seen host states b e f ends.after edge ends.first spoken.free in
+          let each = fine laws u sp rows s seen host states b e f ends.after edge ends.first spoken.free spoken.assumed in
           let enough : (256 * sp.min + period - 1) / period ≤ counted marks f (suc e) = subst (λ (x : ℕ × ℕ). x.0 ≤ counted marks f (suc e)) bounds
           (subst (λ k. (bounds_of sp s).0 ≤ k) (sym (counted-suc marks f e ends.after)) (each.least ends.edge)) in
           omega (arith, not-early sp period sp.min f (suc e) marks (states (suc e)) long (at_pace f (suc e) (omega (arith, ends.after)) edge spoken.unbroken) enough);
       most = λ e ends inside spoken. up_to_each sp.max _ (λ most is. omega (arith, ends.after, within most is f e ends.after edge ends.first spoken));
       unclosed = λ quiet spoken. up_to_each sp.max _ (λ most is.
           last f n most below (λ c after e. within most is f c after edge (λ d more less. quiet d more (omega (arith, less, e))) (subst (IsSpokenOf Clocks marks f) e spoken)));
-      strays = λ some c after inside quiet spoken. (fine laws u sp rows s seen host states b c f after edge quiet spoken.free).strays some;
+      strays = λ some c after inside quiet spoken. (fine laws u sp rows s seen host states b c f after edge quiet spoken.free spoken.assumed).strays some;
     } where
       -- the last clock before the end
       last : (f n most : ℕ) → f < n → ((c : ℕ) → f < c → n ≡ suc c → c ≤ f + most) → n - 1 - f ≤ most

@@ -15,6 +15,8 @@ pub mod Pacing
 pub mod InClocks
 pub mod Sound
 pub mod Held
+mod AssumedRuns
+mod AssumedSteps
 mod EventRows
 mod HoldsRows
 mod PairRows

@@ -1,9 +1,10 @@
 -- What the laws of the crates below say, as one premise of this crate's lemmas.
-use Rattle.std.proofs.Common.{◌≡◌, ◌==◌, ℕ, suc, ◌+◌, ◌<◌, ◌≤◌, ◌↔◌, true, false, IsTrue, Option, Some, None, List, slice_index_or}
+use Rattle.std.proofs.Common.{◌≡◌, ◌==◌, ℕ, suc, ◌+◌, ◌<◌, ◌≤◌, ◌↔◌, Bool, true, false, IsTrue, Option, Some, None, List, slice_index_or}
 use Rattle.std.specs.Int.{bit_at}
 use Rattle.std.specs.List.{Contains}
 use Rattle.clock_divider.specs.Ticks.{IsTickClock, is_tick}
 use Rattle.pin_matrix.specs.Pins.{last_of}
+use Rattle.pin_matrix.specs.declared.assume.Follow.{Follow}
 use Rattle.pin_matrix.specs.declared.machine.MachineSetup.{MachineSetup}
 use Rattle.pin_matrix.specs.declared.setup.Setup.{Setup}
 use Rattle.pin_matrix.specs.declared.span.PinSignal.TheVariants.{Level, Direction}
@@ -35,19 +36,19 @@ use Rattle.span_ticks.specs.Following.{InAges, level_after, IsFollowed}
 
 pub record Laws : Type 0 where
   -- of span_ticks: a tick follows the table, open ages have room, a start is under way, and levels are last writes
-  pub ticks : (u : Setup) (sp : Span) (rows : Context → Option Ages) (s : MachineSetup) (v : View) (q : Queues) (r : Registers) (w : Watch)
+  pub ticks : (u : Setup) (sp : Span) (rows : Context → Option Ages) (s : MachineSetup) (v : View) (q : Queues) (r : Registers) (kept : Bool) (w : Watch)
       → slice_index_or u.machines sp.machine None ≡ Some s → IsSoundTable u sp rows → v.memory ≡ u.memory
-      → IsUnderWay u sp rows s (flow_of r) w → IsFollowed u sp rows s r.pc (is_excused_in sp (flow_of r)) w (tick_of s v q r)
-  pub room : (u : Setup) (sp : Span) (rows : Context → Option Ages) (s : MachineSetup) (r : Registers) (w : Watch)
+      → IsUnderWay u sp rows s kept (flow_of r) w → IsFollowed u sp rows s kept r.pc (is_excused_in sp (flow_of r)) w (tick_of s v q r)
+  pub room : (u : Setup) (sp : Span) (rows : Context → Option Ages) (s : MachineSetup) (r : Registers) (kept : Bool) (w : Watch)
       → slice_index_or u.machines sp.machine None ≡ Some s → IsSoundTable u sp rows → is_bounded sp ≡ true → ((address : ℕ) → is_named sp address ≡ false)
-      → is_excused_in sp (flow_of r) ≡ false → IsUnderWay u sp rows s (flow_of r) w → (n : ℕ) → InAges (is_bounded sp) n w.ages → n + 1 ≤ (bounds_of sp s).1
+      → is_excused_in sp (flow_of r) ≡ false → IsUnderWay u sp rows s kept (flow_of r) w → (n : ℕ) → InAges (is_bounded sp) n w.ages → n + 1 ≤ (bounds_of sp s).1
   pub begins : (u : Setup) (sp : Span) (rows : Context → Option Ages) (s : MachineSetup) (k : Context)
-      → slice_index_or u.machines sp.machine None ≡ Some s → IsSoundTable u sp rows → IsContextOf k (flow_of (first_registers s))
-      → IsInRow Empty (rows k) → IsUnderWay u sp rows s (flow_of (first_registers s)) (start false k Empty)
+      → slice_index_or u.machines sp.machine None ≡ Some s → IsSoundTable u sp rows → IsContextOf sp k (flow_of (first_registers s))
+      → IsInRow Empty (rows k) → IsUnderWay u sp rows s true (flow_of (first_registers s)) (start false k Empty)
   pub levels : (p : ℕ) (writes : List (ℕ × ℕ)) (old : ℕ) → level_after p writes (old == 1) ≡ (last_of p old writes == 1)
   -- of span_bounds: each entry is that of a row
-  pub entries : (rows : List Row) (k : Context) (a : Ages) → IsTable rows → is_placed k.address k.x k.y ≡ true
-      → entry_at rows (number_of k) ≡ Present a → Contains rows (record { context = k; ages = a })
+  pub entries : (d : Follow) (rows : List Row) (k : Context) (a : Ages) → IsTable d rows → is_placed d k.address k.x k.y ≡ true
+      → entry_at d rows (number_of d k) ≡ Present a → Contains rows (record { context = k; ages = a })
   -- of block_core: each place goes its own way, and a pin of one machine has what it writes
   pub places_start : (s : Setup) (id : ℕ) → id < 4 → place_at (first_state s) id ≡ first_place s id
   pub places_go_on : (memory : List ℕ) (seen : ℕ → ℕ) (host : ℕ → Due) (states : ℕ → BlockState) → Follows memory seen host states

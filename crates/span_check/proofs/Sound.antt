@@ -1,12 +1,14 @@
 -- A closed and good table, and what the laws of the block say of a run, put together.
-use Rattle.std.proofs.Common.{◌≡◌, ◌==◌, ℕ, zero, suc, ◌+◌, ◌<◌, nat_lt, Bool, true, false, not, ◌&&◌, ◌||◌, cond, Option, Some, None, option_map, IfSome, List, [], ◌∷◌, length, unwrap_or, slice_index_or, refl, ap, sym, subst, ◌∙◌, arith}
+use Rattle.std.proofs.Common.{◌≡◌, ◌==◌, ℕ, zero, suc, ◌+◌, ◌<◌, nat_le, nat_lt, Bool, true, false, not, ◌&&◌, ◌||◌, cond, Option, Some, None, option_map, IfSome, List, [], ◌∷◌, length, unwrap_or, slice_index_or, refl, ap, sym, subst, ◌∙◌, arith}
 use Rattle.std.proofs.lemmas.Bool.{and_parts, or_parts, and_from}
 use Rattle.std.proofs.lemmas.Bool.Decides.{nat_tests}
 use Rattle.std.specs.Int.{bit_at}
 use Rattle.std.specs.List.{AllByRecursion, Contains}
+use Rattle.pin_matrix.specs.Followed.{followed}
 use Rattle.pin_matrix.specs.Pins.{last_of}
 use Rattle.pin_matrix.specs.Setups.{ids_are_places}
 use Rattle.pin_matrix.specs.Spans.{is_signal, signal_bits}
+use Rattle.pin_matrix.specs.declared.assume.Follow.{Follow}
 use Rattle.pin_matrix.specs.declared.machine.MachineSetup.{MachineSetup}
 use Rattle.pin_matrix.specs.declared.setup.Setup.{Setup}
 use Rattle.pin_matrix.specs.declared.span.PinSignal.{PinSignal}
@@ -24,12 +26,13 @@ use Rattle.span_step.specs.declared.stepped.Next.{Next}
 use Rattle.span_step.specs.Contexts.{Context, is_small}
 use Rattle.span_step.specs.Courses.{start}
 use Rattle.span_step.specs.Laws.{first_cause}
+use Rattle.span_step.specs.Narrowing.{followed_to, nexts_of}
 use Rattle.span_step.specs.Steps.{context_steps, period_of}
 use Rattle.span_bounds.specs.declared.entry.Entry.{Entry}
 use Rattle.span_bounds.specs.declared.entry.Entry.TheVariants.{Absent, Present}
 use Rattle.span_bounds.specs.declared.row.Row.{Row}
 use Rattle.span_bounds.specs.Numbers.{number_of}
-use Rattle.span_bounds.specs.Tables.{entry_at, LiesAt, IsTable, known_of, started, start_context, AllLieIn, EachRow, IsClosed, IsGood, ages_of}
+use Rattle.span_bounds.specs.Tables.{entry_at, LiesAt, IsTable, started, start_context, AllLieIn, EachRow, IsClosed, IsGood, ages_of}
 use Rattle.span_ticks.specs.Rows.{IsInRow, HasRow, IsSoundTable}
 use Rattle.span_ticks.specs.UnderWay.{Covers, IsContextOf, flow_of}
 use Rattle.span_ticks.specs.Following.{writes_to}
@@ -41,8 +44,8 @@ use Rattle.span_check.proofs.Walk.{IsBeside}
 use Rattle.span_check.proofs.Pacing.{IsRun}
 
 -- a table as a function
-abbrev pub rows_of : List Row → Context → Option Ages
-rows_of rows k = ages_of (entry_at rows (number_of k))
+abbrev pub rows_of : Follow → List Row → Context → Option Ages
+rows_of d rows k = ages_of (entry_at d rows (number_of d k))
 
 in-row : (a : Ages) (e : Entry) → LiesAt a e → IsInRow a (ages_of e)
 in-row a Absent h = h
@@ -52,9 +55,9 @@ present : (e : Entry) (a : Ages) → ages_of e ≡ Some a → e ≡ Present a
 present Absent a h = cc
 present (Present b) a h = ap (λ (x : Ages). let y : Entry = Present x in y) (ap (λ (o : Option Ages). unwrap_or o a) h)
 
-all-in-rows : (rows : List Row) (nexts : List Next) → AllLieIn rows nexts → AllByRecursion (HasRow (rows_of rows)) nexts
-all-in-rows rows [] h = tt
-all-in-rows rows (n ∷ nexts) h = (in-row n.ages (entry_at rows (number_of n.context)) h.0, all-in-rows rows nexts h.1)
+all-in-rows : (d : Follow) (rows : List Row) (nexts : List Next) → AllLieIn d rows nexts → AllByRecursion (HasRow (rows_of d rows)) nexts
+all-in-rows d rows [] h = tt
+all-in-rows d rows (n ∷ nexts) h = (in-row n.ages (entry_at d rows (number_of d n.context)) h.0, all-in-rows d rows nexts h.1)
 
 -- a fact of each row
 at-row : (P : Row → Type 0) (rows : List Row) (r : Row) (k : ℕ) → EachRow P rows → k < length rows → slice_index_or rows k r ≡ r → P r
@@ -65,12 +68,13 @@ at-row P (x ∷ rows) r (suc k) h below e = at-row P rows r k h.1 (omega (arith,
 of-row : (P : Row → Type 0) (rows : List Row) (r : Row) → EachRow P rows → Contains rows r → P r
 of-row P rows r h c = at-row P rows r c.0 h c.1 c.2
 
-pub sound_table : (laws : Laws) (u : Setup) (sp : Span) (rows : List Row) → IsTable rows → IsClosed u sp rows → IsGood u sp rows → IsSoundTable u sp (rows_of rows)
+pub sound_table : (laws : Laws) (u : Setup) (sp : Span) (rows : List Row) → IsTable (followed sp) rows → IsClosed u sp rows → IsGood u sp rows → IsSoundTable u sp (rows_of (followed sp) rows)
 sound_table laws u sp rows table closed good = record {
   row = λ k a placed h.
-      let there = laws.entries rows k a table placed (present (entry_at rows (number_of k)) a h) in
+      let d : Follow = followed sp in
+      let there = laws.entries d rows k a table placed (present (entry_at d rows (number_of d k)) a h) in
       record {
-        closed = all-in-rows rows _ (of-row (λ r. AllLieIn rows (context_steps u sp r.context r.ages).nexts) rows _ closed.steps there);
+        closed = all-in-rows d rows _ (of-row (λ r. AllLieIn d rows (nexts_of (context_steps u sp r.context r.ages))) rows _ closed.steps there);
         good = of-row (λ r. first_cause (context_steps u sp r.context r.ages).causes ≡ None) rows _ good there;
       };
 }
@@ -141,24 +145,24 @@ place_id place (suc i) (Some m ∷ machines) s h e = place_id (place + 1) i mach
   on = omega arith
 
 -- the start of a table agrees with the machine
-known_covers : (n : ℕ) → Covers (known_of n) n
-known_covers n = by (nat_lt n 32) where
+known_covers : (most n : ℕ) → Covers (followed_to most (Some n)) n
+known_covers most n = by (nat_le n most) where
   by : (b : Bool) → Covers (cond b (Some n) None) n
   by true = refl
   by false = tt
 
-known_small : (n : ℕ) → is_small (known_of n) ≡ true
-known_small n = by (nat_lt n 32) refl where
-  by : (b : Bool) → nat_lt n 32 ≡ b → is_small (cond b (Some n) None) ≡ true
+known_small : (most n : ℕ) → is_small most (followed_to most (Some n)) ≡ true
+known_small most n = by (nat_le n most) refl where
+  by : (b : Bool) → nat_le n most ≡ b → is_small most (cond b (Some n) None) ≡ true
   by true e = e
   by false e = refl
 
-start-agrees : (u : Setup) (sp : Span) (s : MachineSetup) → IsContextOf (started (Some s) u sp) (flow_of (first_registers s))
+start-agrees : (u : Setup) (sp : Span) (s : MachineSetup) → IsContextOf sp (started (Some s) u sp) (flow_of (first_registers s))
 start-agrees u sp s = record {
-  placed = and_from _ _ below (and_from _ _ (known_small s.x) (known_small s.y));
+  placed = and_from _ _ below (and_from _ _ (known_small (followed sp).x s.x) (known_small (followed sp).y s.y));
   address = refl;
-  x = known_covers s.x;
-  y = known_covers s.y;
+  x = known_covers (followed sp).x s.x;
+  y = known_covers (followed sp).y s.y;
 } where
   below : nat_lt s.start 32 ≡ true
   below = grind (arith, nat_tests, s.start_in_memory)
@@ -184,12 +188,13 @@ module _ (laws : Laws) (u : Setup) (sp : Span) (s : MachineSetup) (configured : 
   first-place =
       ap (λ (x : BlockState). place_at x sp.machine) begins ∙ laws.places_start u sp.machine sp.machine_in_block ∙ ap (option_map first_slot) configured
 
-  pub beside : (rows : List Row) → IsSoundTable u sp (rows_of rows) → LiesAt Empty (entry_at rows (number_of (start_context u sp))) → IsBeside u sp (rows_of rows) s seen host states
+  pub beside : (rows : List Row) → IsSoundTable u sp (rows_of (followed sp) rows) → LiesAt Empty (entry_at (followed sp) rows (number_of (followed sp) (start_context u sp))) → IsBeside u sp (rows_of (followed sp) rows) s seen host states
   unfolding start_context
   beside rows sound at_start =
+      let d : Follow = followed sp in
       let k : Context = started (Some s) u sp in
       let same : started (slice_index_or u.machines sp.machine None) u sp ≡ k = ap (λ m. started m u sp) configured in
-      let row : IsInRow Empty (rows_of rows k) = in-row Empty _ (subst (λ x. LiesAt Empty (entry_at rows (number_of x))) same at_start) in
+      let row : IsInRow Empty (rows_of d rows k) = in-row Empty _ (subst (λ x. LiesAt Empty (entry_at d rows (number_of d x))) same at_start) in
       record {
         configured = configured;
         sound = sound;
@@ -198,7 +203,7 @@ module _ (laws : Laws) (u : Setup) (sp : Span) (s : MachineSetup) (configured : 
         start = record {
           slot = first-place;
           setup = refl;
-          under_way = laws.begins u sp (rows_of rows) s k configured sound (start-agrees u sp s) row;
+          under_way = laws.begins u sp (rows_of d rows) s k configured sound (start-agrees u sp s) row;
           from = rw begins refl;
           to = rw begins refl;
         };

@@ -95,8 +95,8 @@ first_at_7 e ends inside = elim (cases_lt e 7) [
 ]
 
 -- such a span excuses nothing
-plain : {sp : Span} → sp.prompt ≡ false → sp.without ≡ [] → IsPlain sp
-plain h k = record { waits = h; leaves = k }
+plain : {sp : Span} → sp.prompt ≡ false → sp.without ≡ [] → sp.assume ≡ [] → IsPlain sp
+plain h k a = record { waits = h; leaves = k; assumes = a }
 
 no_bound : IsSome {T = ℕ} None → ⊥
 no_bound e = cc
@@ -112,7 +112,7 @@ freely-holds = record {
 
 freely-early : HoldsFrom Ticks 8 None freely 8 0 → ⊥
 unfolding freely
-freely-early h = omega (arith, freely-row.3, h.least 7 (record { after = omega arith; first = high_before_7; edge = freely-row.2 }) (omega arith) ((plain_spoken _ _ _ _ _ Ticks 0 8 (plain refl refl)).1 tt))
+freely-early h = omega (arith, freely-row.3, h.least 7 (record { after = omega arith; first = high_before_7; edge = freely-row.2 }) (omega arith) ((plain_spoken _ _ _ _ _ Ticks 0 8 (plain refl refl refl)).1 tt))
 
 -- `set pins, 1`, `set pins, 0`, with a divider of 2.5
 square : Setup
@@ -155,7 +155,7 @@ high_until_5 = (record { after = omega arith; first = two_clocks disabled refl r
 
 disabled-in-ticks : HoldsFrom Ticks 2 (Some 2) disabled 6 2 → ⊥
 unfolding disabled
-disabled-in-ticks h = omega (arith, h.least 5 high_until_5.0 (omega arith) ((plain_spoken _ _ _ _ _ Ticks 2 6 (plain refl refl)).1 tt), high_until_5.1)
+disabled-in-ticks h = omega (arith, h.least 5 high_until_5.0 (omega arith) ((plain_spoken _ _ _ _ _ Ticks 2 6 (plain refl refl refl)).1 tt), high_until_5.1)
 
 -- of a span in clocks nothing is said
 disabled-in-clocks : IsSpokenOf Clocks disabled 2 6 → ⊥
@@ -191,7 +191,7 @@ high_until_3 = record { after = omega arith; first = high_before_3; edge = undis
 -- so a span in clocks is spoken of
 undisturbed-spoken : IsSpokenOf Clocks undisturbed 0 4
 unfolding undisturbed
-undisturbed-spoken = (plain_spoken _ _ _ _ _ Clocks 0 4 (plain refl refl)).1 (three_clocks (λ c. (undisturbed c).breaks ≡ false) undisturbed-row.4 undisturbed-row.5 undisturbed-row.6)
+undisturbed-spoken = (plain_spoken _ _ _ _ _ Clocks 0 4 (plain refl refl refl)).1 (three_clocks (λ c. (undisturbed c).breaks ≡ false) undisturbed-row.4 undisturbed-row.5 undisturbed-row.6)
 
 -- with at least 4, or at most 2, it doesn't hold
 undisturbed-early : HoldsFrom Clocks 4 (Some 4) undisturbed 4 0 → ⊥
@@ -206,6 +206,7 @@ undisturbed-unclosed h = omega (
   arith,
   h.unclosed high_before_3 (record {
     free = λ c after before. undisturbed-spoken.free c after (omega (arith, before));
+    assumed = λ f c misses from before. undisturbed-spoken.assumed f c misses from (omega (arith, before));
     unbroken = λ c after before. undisturbed-spoken.unbroken c after (omega (arith, before));
   }),
 )
@@ -226,7 +227,7 @@ one_clock (suc (suc c)) after before = absurd (omega (arith, before))
 -- a late tick in the clock of the to-edge is one too many
 late_fall-breaks : HoldsFrom Ticks 0 (Some 9) late_fall 3 0 → ⊥
 unfolding late_fall
-late_fall-breaks h = never late_fall-row.4 (h.strays refl 2 (omega arith) (omega arith) one_clock ((plain_spoken _ _ _ _ _ Ticks 0 3 (plain refl refl)).1 tt))
+late_fall-breaks h = never late_fall-row.4 (h.strays refl 2 (omega arith) (omega arith) one_clock ((plain_spoken _ _ _ _ _ Ticks 0 3 (plain refl refl refl)).1 tt))
 
 -- `out pins, 1` with autopull, which waits for two ticks, and `set pins, 0`: its last late tick, in clock 2, is that of the from-edge
 late_rise : ℕ → Mark

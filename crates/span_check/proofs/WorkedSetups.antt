@@ -1,6 +1,7 @@
 -- Setups of one machine for the worked rows.
 use Rattle.std.proofs.Common.{ℕ, ◌<◌, ◌≤◌, ◌^◌, IsTrue, Bool, true, false, Some, None, List, [], ◌∷◌, ◌++◌, replicate, refl, arith}
 use Rattle.pio_encode.specs.declared.rule.SideRule.{SideRule}
+use Rattle.pin_matrix.specs.declared.assume.Assumption.{Assumption}
 use Rattle.pin_matrix.specs.declared.mapping.Mapping.{Mapping}
 use Rattle.pin_matrix.specs.declared.machine.MachineSetup.{MachineSetup}
 use Rattle.pin_matrix.specs.declared.setup.Setup.{Setup}
@@ -114,6 +115,7 @@ span_of from_rise to_rise min max ordered bounded stalls = record {
   without = [];
   from_at = [];
   to_at = [];
+  assume = [];
   named = refl;
   machine_in_block = omega arith;
   from_pin_is_a_pin = omega arith;
@@ -143,6 +145,7 @@ span_from from_rise to_rise min fits stalls = record {
   without = [];
   from_at = [];
   to_at = [];
+  assume = [];
   named = refl;
   machine_in_block = omega arith;
   from_pin_is_a_pin = omega arith;
@@ -172,3 +175,7 @@ prompt_of stalls = record (span_of true false 1 1 (omega arith) (omega arith) st
 -- one that leaves out ways through these addresses
 abbrev pub without_of : (without : List ℕ) → Span
 without_of without = record (span_of true false 0 9 (omega arith) (omega arith) []) { without = without }
+
+-- one that assumes this of X and Y
+abbrev pub assuming_of : (max : ℕ) → max < 2 ^ 24 → (assume : List Assumption) → Span
+assuming_of max bounded assume = record (span_of true false 0 max (omega arith) bounded []) { assume = assume }

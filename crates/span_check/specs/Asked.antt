@@ -35,7 +35,8 @@ pub record IsOfEdges (sp : Span) : Type 0 where
   pub from_any : sp.from_at ≡ []
   pub to_any : sp.to_at ≡ []
 
--- a span that speaks of from-events after which its machine waits, and leaves out no way
+-- a span that speaks of from-events after which its machine waits, leaves out no way, and assumes nothing
 pub record IsPlain (sp : Span) : Type 0 where
   pub waits : sp.prompt ≡ false
   pub leaves : sp.without ≡ []
+  pub assumes : sp.assume ≡ []

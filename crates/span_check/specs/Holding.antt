@@ -3,6 +3,7 @@
 --   measured         what a span counts
 --   IsQuiet          no to-event comes between two clocks
 --   IsFirstToEdge    the first to-event comes
+--   IsAssumed        X and Y are as the span assumes up to some clock
 --   IsSpokenOf       what a span speaks of
 --   IsUpTo           a number is no more than a greatest bound
 --   HoldsFrom        what is asked from one from-event on
@@ -45,9 +46,15 @@ IsUnbrokenIn Clocks m s end = IsUnbroken m s end
 abbrev pub IsUnexcused : (ℕ → Mark) → (s end : ℕ) → Type 0
 IsUnexcused m s end = (c : ℕ) → s < c → c < end → (m c).excused ≡ false
 
--- What a span speaks of: a from-event which the machine doesn't excuse; in clocks one of those after which no such line comes.
+-- X and Y are as assumed before clock `end`: the delay after an instruction that leaves one of them otherwise isn't over before
+abbrev pub IsAssumed : (ℕ → Mark) → (end : ℕ) → Type 0
+IsAssumed m end = (f c : ℕ) → (m f).misses ≡ true → f ≤ c → c < end → (m c).rested ≡ false
+
+-- What a span speaks of: a from-event which the machine doesn't excuse, as long as X and Y are as assumed; in clocks one of those
+-- after which no such line comes.
 pub record IsSpokenOf (unit : SpanUnit) (m : ℕ → Mark) (s end : ℕ) : Type 0 where
   pub free : IsUnexcused m s end
+  pub assumed : IsAssumed m end
   pub unbroken : IsUnbrokenIn unit m s end
 
 -- a number is no more than the greatest bound, if there is one

@@ -4,7 +4,7 @@
 --   counts, strays   which ticks count, and which must not come while the span is open
 --   excused_at       a machine stands so that the span doesn't speak of the from-events before
 --   mark_of          the mark of a clock
-use Rattle.std.specs.Prelude.{ℕ, ◌==◌, Bool, true, false, not, ◌||◌, Option, Some, None, List, slice_index_or}
+use Rattle.std.specs.Prelude.{ℕ, ◌==◌, Bool, true, false, not, ◌&&◌, ◌||◌, Option, Some, None, List, slice_index_or}
 use Rattle.std.specs.List.{list_any}
 use Rattle.pin_matrix.specs.Spans.{signal_bits}
 use Rattle.pin_matrix.specs.declared.span.PinSignal.{PinSignal}
@@ -16,13 +16,15 @@ use Rattle.block_core.specs.Slots.{Slot}
 use Rattle.block_core.specs.Block.{BlockState}
 use Rattle.block_core.specs.Edges.{has_edge}
 use Rattle.block_core.specs.Following.{place_at, intent_in}
+use Rattle.span_step.specs.Narrowing.{keeps}
 use Rattle.span_step.specs.Steps.{is_event}
 use Rattle.span_ticks.specs.Following.{finishes, works}
 use Rattle.span_ticks.specs.UnderWay.{flow_of, is_excused_in}
 
 -- What a span looks at in a clock: whether its from-event and its to-event come, whether the machine has a tick that counts,
 -- whether it has a late tick at an address that the span doesn't name, whether a line disables or restarts it, and whether it
--- stands so at the clock's start that the from-events before are excused.
+-- stands so at the clock's start that the from-events before are excused; whether an instruction finishes and leaves X or Y otherwise
+-- than the span assumes, and whether no delay is left after the clock.
 pub record Mark : Type 0 where
   pub from : Bool
   pub to : Bool
@@ -30,6 +32,8 @@ pub record Mark : Type 0 where
   pub strays : Bool
   pub breaks : Bool
   pub excused : Bool
+  pub misses : Bool
+  pub rested : Bool
 
 -- a tick that counts is any but a late one at an address that the span names
 abbrev pub counts : Kind → (named : Bool) → Bool
@@ -65,6 +69,16 @@ abbrev pub excused_at : Span → Option Slot → Bool
 excused_at sp None = false
 excused_at sp (Some m) = is_excused_in sp (flow_of m.machine.registers)
 
+-- what a place has in X and Y is as the span assumes after the instruction at an address
+abbrev pub keeps_at : Span → (address : ℕ) → Option Slot → Bool
+keeps_at sp address None = true
+keeps_at sp address (Some m) = keeps sp address m.machine.registers.x m.machine.registers.y
+
+-- no delay is left at a place
+abbrev pub is_rested : Option Slot → Bool
+is_rested None = true
+is_rested (Some m) = m.machine.registers.delay == 0
+
 -- an edge of a pin between two states: of its level, or of its direction; none where no signal is watched
 abbrev pub has_signal_edge : Option PinSignal → (pin : ℕ) → (rise : Bool) → (before after : BlockState) → Bool
 has_signal_edge signal pin rise before after =
@@ -90,4 +104,6 @@ mark_of sp memory seen d before after =
       strays = strays tick.kind named;
       breaks = is_broken d sp.machine;
       excused = excused_at sp (place_at before sp.machine);
+      misses = ends && not (keeps_at sp address (place_at after sp.machine));
+      rested = is_rested (place_at after sp.machine);
     }

@@ -26,6 +26,6 @@ pub record HoldsInEveryRun (u : Setup) (sp : Span) : Type 0 where
 
 -- a span whose verdict is that it is proved holds in every run; the other verdicts say nothing of runs
 abbrev pub VerdictHolds : Setup → Span → Verdict → Type 0
-VerdictHolds u sp (Proved rows opens closes) = HoldsInEveryRun u sp
+VerdictHolds u sp (Proved table opens closes) = HoldsInEveryRun u sp
 VerdictHolds u sp (Unproved k cause) = Unit {0}
 VerdictHolds u sp (Shared m) = Unit {0}

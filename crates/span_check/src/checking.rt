@@ -1,5 +1,6 @@
 //! The verdict on a span, and what it promises of every run.
-ghost use Rattle.std.specs.Prelude.{◌↔◌, IfOk, IsSome, IsTrue, None, slice_index_or};
+ghost use Rattle.std.specs.Prelude.{◌≡◌, ◌↔◌, IfOk, IsSome, IsTrue, None, slice_index_or};
+ghost use Rattle.pin_matrix.specs.Followed.{followed};
 ghost use Rattle.span_bounds.specs.Tables.{IsClosed, IsGood};
 ghost use Rattle.span_check.specs.Proved.{HoldsInEveryRun, VerdictHolds};
 ghost use Rattle.span_verdict.specs.Sharing.{IsUnshared};
@@ -25,8 +26,9 @@ pub fn check(alloc: Global, setup: &Setup, span: &Span) -> Result<Verdict, Alloc
 /// Whether the table is closed and good, however it was made; then the span holds in every run of the setup, where no
 /// other machine's mapping holds a pin of it. The span's machine is configured. It takes no memory.
 pub fn recheck(table: &Table, setup: &Setup, span: &Span) -> bool
-    requires { IsSome (slice_index_or setup.now.machines span.now.machine None) }
-    ensures sound { IsTrue result ↔ (IsClosed setup.now span.now table.now × IsGood setup.now span.now table.now) }
+    requires configured { IsSome (slice_index_or setup.now.machines span.now.machine None) }
+    requires follow { table.now.follow ≡ followed span.now }
+    ensures sound { IsTrue result ↔ (IsClosed setup.now span.now table.now.rows × IsGood setup.now span.now table.now.rows) }
     ensures holds { IsTrue result → IsUnshared setup.now span.now → HoldsInEveryRun setup.now span.now }
 {
     a_provable_span_holds_in_every_run();

@@ -64,11 +64,14 @@ pub fn what_a_span_asks()
         → Holds unit min (Some max) m n → Holds unit min None m n }
 {}
 
-/// A span with neither `prompt` nor `without` excuses nothing (`excused`). So in ticks it speaks of each from-event,
-/// and in clocks of each after which no line disables or restarts its machine (`spoken`).
+/// A span with neither `prompt` nor `without` nor an assumption excuses nothing (`excused`) and misses nothing
+/// (`misses`). So in ticks it speaks of each from-event, and in clocks of each after which no line disables or restarts
+/// its machine (`spoken`).
 pub fn a_plain_span_excuses_nothing()
     ensures excused { (sp : Span) (memory : List ℕ) (seen : ℕ → ℕ) (host : ℕ → Due) (states : ℕ → BlockState)
         (clock : ℕ) → IsPlain sp → (marks_over sp memory seen host states clock).excused ≡ false }
+    ensures misses { (sp : Span) (memory : List ℕ) (seen : ℕ → ℕ) (host : ℕ → Due) (states : ℕ → BlockState)
+        (clock : ℕ) → IsPlain sp → (marks_over sp memory seen host states clock).misses ≡ false }
     ensures spoken { (sp : Span) (memory : List ℕ) (seen : ℕ → ℕ) (host : ℕ → Due) (states : ℕ → BlockState)
         (unit : SpanUnit) (s end : ℕ) → IsPlain sp
         → IsSpokenOf unit (marks_over sp memory seen host states) s end

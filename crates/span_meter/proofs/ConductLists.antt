@@ -33,7 +33,7 @@ unfolding conduct_before no_conduct
 clock_at start lines zero = clock_after start lines 0 (no_conduct start) (omega arith)
 clock_at start lines (suc n) = let l = clock_at start lines n in clock_after start lines (suc n) (conduct_at start lines n) (omega arith)
 
-length-conducts : (start : Run) (lines : List Line) (n : ℕ) → length (conducts start lines n) ≡ n
+pub length-conducts : (start : Run) (lines : List Line) (n : ℕ) → length (conducts start lines n) ≡ n
 unfolding conducts
 length-conducts start lines zero = refl
 length-conducts start lines (suc n) = let l = length-conducts start lines n in omega (arith, l, length-append (conducts start lines n) (conduct_at start lines n ∷ []))

@@ -20,10 +20,10 @@ later ds starts n m h = record {
   least = h.least;
 }
 
-same_seen : (a b : SeenDistances) → a.pairs ≡ b.pairs → a.least ≡ b.least → a.most ≡ b.most → a ≡ b
-same_seen a b p l m =
-    let mk : ℕ → ℕ → ℕ → SeenDistances = λ x y z. record { pairs = x; least = y; most = z } in
-    ap (λ x. mk x a.least a.most) p ∙ ap (λ x. mk b.pairs x a.most) l ∙ ap (λ x. mk b.pairs b.least x) m
+same_seen : (a b : SeenDistances) → a.pairs ≡ b.pairs → a.least ≡ b.least → a.most ≡ b.most → a.assumed ≡ b.assumed → a ≡ b
+same_seen a b p l m e =
+    let mk : ℕ → ℕ → ℕ → Option ℕ → SeenDistances = λ x y z w. record { pairs = x; least = y; most = z; assumed = w } in
+    ap (λ x. mk x a.least a.most a.assumed) p ∙ ap (λ x. mk b.pairs x a.most a.assumed) l ∙ ap (λ x. mk b.pairs b.least x a.assumed) m ∙ ap (mk b.pairs b.least b.most) e
 
 not_zero : (o : ℕ) → 0 < o → eqb o 0 ≡ false
 not_zero o h = grind (arith, nat_tests)
@@ -59,7 +59,8 @@ closes_some ds s ss n m h few =
     record {
       seen = same_seen _ _ (sum_of m.pairs m.begun (length ds) (length (s ∷ ss)) (length (ds ++ map f (s ∷ ss))) most pairs h.begun (all_of ds (s ∷ ss) f) few)
           (least_after ds m.pairs m.least (n - m.last) (f s) (map f ss) pairs low least)
-          (ap (λ k. max k (n - m.first)) high ∙ ap (max (greatest_of ds)) greatest ∙ sym (greatest-append ds (map f (s ∷ ss))));
+          (ap (λ k. max k (n - m.first)) high ∙ ap (max (greatest_of ds)) greatest ∙ sym (greatest-append ds (map f (s ∷ ss))))
+          refl;
       begun = omega arith;
       first = λ none. absurd (omega arith);
       last = λ none. absurd (omega arith);

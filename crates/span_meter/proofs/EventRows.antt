@@ -9,17 +9,17 @@ use Rattle.span_meter.specs.Spoken.{clocks_to_spoken, spoken}
 
 -- a machine at address 3, at an instruction that has its first tick in the clock and finishes
 abbrev first : MachineConduct
-first = record { pc = 3; waits = false; comes = true; works = true; finishes = true; breaks = false }
+first = record { pc = 3; waits = false; comes = true; works = true; finishes = true; breaks = false; x = 0; y = 0; rests = Some 0 }
 
 -- its late tick, in which it stalls again; one in which it finishes; a tick of a delay; of a pending word, which ends
 abbrev late : MachineConduct
-late = record { pc = 3; waits = true; comes = false; works = true; finishes = false; breaks = false }
+late = record { pc = 3; waits = true; comes = false; works = true; finishes = false; breaks = false; x = 0; y = 0; rests = Some 0 }
 
 abbrev last : MachineConduct
-last = record { pc = 3; waits = true; comes = false; works = true; finishes = true; breaks = false }
+last = record { pc = 3; waits = true; comes = false; works = true; finishes = true; breaks = false; x = 0; y = 0; rests = Some 0 }
 
 abbrev delay : MachineConduct
-delay = record { pc = 3; waits = false; comes = false; works = false; finishes = false; breaks = false }
+delay = record { pc = 3; waits = false; comes = false; works = false; finishes = false; breaks = false; x = 0; y = 0; rests = Some 0 }
 
 -- the ends of these instructions, and rises of pin 0 that they make
 abbrev done : List ℕ → SpanEvent
@@ -44,7 +44,7 @@ edges = (refl, refl, refl, refl, refl, refl, refl, refl)
 
 -- spans of machine 0 that are prompt, leave out ways, or are cut
 abbrev span : (prompt : Bool) (stalls without : List ℕ) (cut : Bool) → SpanEvents
-span prompt stalls without cut = record { machine = 0; from = rise []; to = done (3 ∷ []); prompt = prompt; stalls = stalls; without = without; cut = cut }
+span prompt stalls without cut = record { machine = 0; from = rise []; to = done (3 ∷ []); prompt = prompt; stalls = stalls; without = without; cut = cut; assume = [] }
 
 -- a wait drops where the span is prompt and the address isn't named
 waits : (is_dropped (span true [] [] false) (Some late) ≡ true) × (is_dropped (span true [] [] false) (Some last) ≡ true) × (is_dropped (span true (3 ∷ []) [] false) (Some late) ≡ false) × (is_dropped (span true (4 ∷ []) [] false) (Some late) ≡ true) × (is_dropped (span false [] [] false) (Some late) ≡ false) × (is_dropped (span true [] [] false) (Some first) ≡ false) × (is_dropped (span true [] [] false) (Some delay) ≡ false)

@@ -6,8 +6,11 @@ pub mod Pieces
 mod WorkedRows
 mod SpokenRows
 mod EventRows
+mod AssumedRows
 mod SpokenTelling
 mod SpokenPairs
+pub mod SpokenEnds
+pub mod SpokenTold
 pub mod SpokenNames
 pub mod SpokenTrace
 pub mod ConductLists

@@ -1,5 +1,5 @@
 -- A span that speaks of every pair measures the same by what the machines did as by the samples.
-use Rattle.std.proofs.Common.{◌≡◌, ℕ, suc, Bool, true, false, not, ◌&&◌, ◌||◌, cond, eqb, Option, Some, None, List, [], ◌∷◌, length, refl, sym, ap, ◌∙◌, map, arith}
+use Rattle.std.proofs.Common.{◌≡◌, ℕ, suc, Bool, true, false, not, ◌&&◌, ◌||◌, cond, eqb, ◌==◌, Option, Some, None, List, [], ◌∷◌, length, refl, sym, ap, ◌∙◌, map, arith}
 use Rattle.std.proofs.lemmas.Bool.Decides.{nat_tests}
 use Rattle.std.specs.Option.{option_map}
 use Rattle.pin_matrix.specs.Pins.{is_high}
@@ -14,8 +14,11 @@ use Rattle.block_core.specs.Conduct.{conducts}
 use Rattle.block_core.specs.Edges.{has_edge}
 use Rattle.block_core.specs.Hosted.{samples}
 use Rattle.span_meter.specs.declared.pins.ShownPins.{ShownPins}
-use Rattle.span_meter.specs.Events.{SpanEvent, comes, conduct_of, events_in, is_cut, is_dropped, is_none, is_one_of, is_selective, mark_of, marks, pins_told}
-use Rattle.span_meter.specs.Measured.{clocks_to, ends_in, is_from, is_to, measured, pins_in, pins_of, signal_of, with_distance}
+use Rattle.span_meter.specs.declared.seen.SeenDistances.{SeenDistances}
+use Rattle.span_meter.specs.declared.assumed.Assumed.{Assumed}
+use Rattle.span_meter.specs.Assumed.{assumed_after, assumed_from, assumed_up_to, assumed_where, end_before, ends_before, is_over_before, marks_before, misses, not_before, nothing_missed, spoken_seen}
+use Rattle.span_meter.specs.Events.{SpanEvent, SpanEvents, assumes, comes, conduct_of, events_in, is_cut, is_dropped, is_none, is_one_of, is_selective, mark_of, marks, pins_told}
+use Rattle.span_meter.specs.Measured.{clocks_to, ends_in, is_from, is_to, measured, pins_in, pins_of, seen_of, signal_of, with_distance}
 use Rattle.span_meter.specs.Spoken.{clocks_to_spoken, spoken}
 use Rattle.span_meter.proofs.ConductLists.{same_pins}
 use Rattle.span_meter.proofs.Telling.{no_change}
@@ -26,6 +29,7 @@ record IsPlain (sp : Span) : Type 0 where
   without : sp.without ≡ []
   from : sp.from_at ≡ []
   to : sp.to_at ≡ []
+  assumes : sp.assume ≡ []
   cut : (events_in sp).cut ≡ false
 
 or_false : (a b : Bool) → (a || b) ≡ false → (a ≡ false) × (b ≡ false)
@@ -39,7 +43,7 @@ not_not false h = cc
 is_zero : (n : ℕ) → eqb n 0 ≡ true → n ≡ 0
 is_zero n h = grind (arith, nat_tests)
 
-none_named : (xs : List ℕ) → is_none xs ≡ true → xs ≡ []
+none_named : {A : Type 0} (xs : List A) → (length xs == 0) ≡ true → xs ≡ []
 none_named [] h = refl
 none_named (x ∷ xs) h = let z = is_zero (length (x ∷ xs)) h in absurd (omega arith)
 
@@ -49,7 +53,8 @@ and_false false b h = refl
 
 is_plain : (sp : Span) → is_selective sp ≡ false → IsPlain sp
 is_plain sp h =
-    let halves = or_false (sp.prompt || not (is_none sp.without)) (not (is_none sp.from_at) || not (is_none sp.to_at)) h in
+    let both = or_false ((sp.prompt || not (is_none sp.without)) || (not (is_none sp.from_at) || not (is_none sp.to_at))) (assumes sp) h in
+    let halves = or_false (sp.prompt || not (is_none sp.without)) (not (is_none sp.from_at) || not (is_none sp.to_at)) both.0 in
     let speaks = or_false sp.prompt (not (is_none sp.without)) halves.0 in
     let ends = or_false (not (is_none sp.from_at)) (not (is_none sp.to_at)) halves.1 in
     record {
@@ -57,6 +62,7 @@ is_plain sp h =
       without = none_named sp.without (not_not _ speaks.1);
       from = none_named sp.from_at (not_not _ ends.0);
       to = none_named sp.to_at (not_not _ ends.1);
+      assumes = none_named sp.assume (not_not _ both.1);
       cut = and_false (is_cut sp.unit) (is_selective sp) h;
     }
 
@@ -85,13 +91,13 @@ and_none : (b : Bool) → (b && false) ≡ false
 and_none true = refl
 and_none false = refl
 
-no_end : (m : Option MachineConduct) → (pin : ℕ) (rise : Bool) → (before after : ShownPins) → comes (record { pin = pin; signal = None; rise = rise; at = [] }) before after m ≡ false
-no_end None pin rise before after = refl
-no_end (Some m) pin rise before after = and_none m.finishes
+no_finish : (m : Option MachineConduct) → (pin : ℕ) (rise : Bool) → (before after : ShownPins) → comes (record { pin = pin; signal = None; rise = rise; at = [] }) before after m ≡ false
+no_finish None pin rise before after = refl
+no_finish (Some m) pin rise before after = and_none m.finishes
 
 edge_alone : (pin : ℕ) (signal : Option PinSignal) (rise : Bool) (before after : ShownPins) (m : Option MachineConduct)
     → comes (record { pin = pin; signal = signal; rise = rise; at = [] }) before after m ≡ has_edge pin rise (signal_of signal before) (signal_of signal after)
-edge_alone pin None rise before after m = no_end m pin rise before after ∙ sym (no_change rise (is_high 0 pin))
+edge_alone pin None rise before after m = no_finish m pin rise before after ∙ sym (no_change rise (is_high 0 pin))
 edge_alone pin (Some s) rise before after m = and_true (has_edge pin rise (signal_of (Some s) before) (signal_of (Some s) after))
 
 plain_from : (sp : Span) → IsPlain sp → (before after : ShownPins) (m : Option MachineConduct) → comes (events_in sp).from before after m ≡ is_from (ends_in sp) before after
@@ -143,3 +149,39 @@ plain_pairs sp p clock before (c ∷ cs) (s ∷ ss) h =
 pub plain_measures : (start : Run) (sp : Span) (lines : List Line) (clocks : ℕ) → is_selective sp ≡ false
     → spoken (marks (events_in sp) 0 (pins_in start.state) (conducts start lines clocks)) ≡ measured (ends_in sp) (pins_in start.state) (samples start lines clocks)
 plain_measures start sp lines clocks h = plain_pairs sp (is_plain sp h) 0 (pins_in start.state) (conducts start lines clocks) (samples start lines clocks) (same_pins start lines clocks)
+
+-- nothing is missed where nothing is assumed
+no_miss : (a b : Bool) → a ≡ false → (a || (b && false)) ≡ false
+no_miss true b h = cc
+no_miss false true h = refl
+no_miss false false h = refl
+
+none_where : (clock : ℕ) (m : Option MachineConduct) (a : Assumed) → a.missed ≡ false → (assumed_where [] clock m a).missed ≡ false
+none_where clock None a h = h
+none_where clock (Some m) a h = on (is_over_before clock a) where
+  on : (b : Bool) → (cond {A = Assumed} b a (record { missed = a.missed || misses [] m; rests = not_before clock m.rests })).missed ≡ false
+  on true = h
+  on false = no_miss a.missed m.finishes h
+
+none_missed : (e : SpanEvents) → e.assume ≡ [] → (clock : ℕ) (a : Assumed) (told : List Conduct) → a.missed ≡ false → (assumed_from e clock a told).missed ≡ false
+unfolding assumed_from
+none_missed e none clock a [] h = h
+none_missed e none clock a (c ∷ rest) h =
+    none_missed e none (suc clock) (assumed_after e clock c a) rest
+    (ap (λ assume. (assumed_where assume clock (conduct_of clock e.machine c) a).missed) none ∙ none_where clock (conduct_of clock e.machine c) a h)
+
+no_end : (clock : ℕ) (a : Assumed) → a.missed ≡ false → end_before clock a ≡ None
+no_end clock a h = ap (λ (b : Bool). cond {A = Option ℕ} (b && ends_before clock a.rests) a.rests None) h
+
+-- A span that assumes nothing has no end, and measures all pairs of which it speaks.
+pub plain_assumes : (sp : Span) → is_selective sp ≡ false → sp.assume ≡ []
+plain_assumes sp h = (is_plain sp h).assumes
+
+pub no_assumption : (e : SpanEvents) (told : List Conduct) → e.assume ≡ [] → assumed_up_to e told ≡ None
+unfolding assumed_up_to
+no_assumption e told none = no_end (length told) (assumed_from e 0 nothing_missed told) (none_missed e none 0 nothing_missed told refl)
+
+pub all_spoken : (e : SpanEvents) (pins : ShownPins) (told : List Conduct) → e.assume ≡ [] → spoken_seen e pins told ≡ seen_of (spoken (marks e 0 pins told))
+unfolding spoken_seen
+all_spoken e pins told none =
+    ap (λ (end : Option ℕ). let s : SeenDistances = record (seen_of (spoken (marks_before end (marks e 0 pins told)))) { assumed = end } in s) (no_assumption e told none)

@@ -56,10 +56,10 @@ unfolding measured clocks_to
 high_before = refl
 
 -- how many, the least and the greatest
-in_numbers : seen_of (4 ∷ 2 ∷ 3 ∷ []) ≡ record { pairs = 3; least = 2; most = 4 }
+in_numbers : seen_of (4 ∷ 2 ∷ 3 ∷ []) ≡ record { pairs = 3; least = 2; most = 4; assumed = None }
 in_numbers = refl
 
-none_in_numbers : seen_of [] ≡ record { pairs = 0; least = 0; most = 0 }
+none_in_numbers : seen_of [] ≡ record { pairs = 0; least = 0; most = 0; assumed = None }
 none_in_numbers = refl
 
 -- a sample with these directions

@@ -7,6 +7,7 @@
 --   mark_of, marks          the marks of clocks
 use Rattle.std.specs.Prelude.{ℕ, suc, ◌==◌, Bool, true, false, not, ◌&&◌, ◌||◌, Option, Some, None, is_some, List, [], ◌∷◌, length, if◌then◌else◌, slice_index_or}
 use Rattle.std.specs.List.{list_any}
+use Rattle.pin_matrix.specs.declared.assume.Assumption.{Assumption}
 use Rattle.pin_matrix.specs.declared.span.PinSignal.{PinSignal}
 use Rattle.pin_matrix.specs.declared.span.Span.{Span}
 use Rattle.pin_matrix.specs.declared.span.SpanUnit.{SpanUnit}
@@ -27,7 +28,8 @@ pub record SpanEvent : Type 0 where
   pub at : List ℕ
 
 -- The events of a span, its machine, and what it doesn't speak of: waits, if it is prompt, but at one of `stalls`; ways through one
--- of `without`; and, where lines cut it, what a line that disables the machine or restarts it comes after.
+-- of `without`; where lines cut it, what a line that disables the machine or restarts it comes after; and what comes once X or Y
+-- isn't as it assumes.
 pub record SpanEvents : Type 0 where
   pub machine : ℕ
   pub from : SpanEvent
@@ -36,6 +38,7 @@ pub record SpanEvents : Type 0 where
   pub stalls : List ℕ
   pub without : List ℕ
   pub cut : Bool
+  pub assume : List Assumption
 
 -- a span in clocks, of which a line that disables its machine excuses the from-edges before
 abbrev pub is_cut : SpanUnit → Bool
@@ -50,9 +53,14 @@ is_one_of addresses address = list_any (λ a. a == address) addresses
 abbrev pub is_none : List ℕ → Bool
 is_none addresses = length addresses == 0
 
+-- it assumes something of X or Y
+abbrev pub assumes : Span → Bool
+assumes sp = not (length sp.assume == 0)
+
 -- a span with a key by which it speaks not of every pair of edges
 abbrev pub is_selective : Span → Bool
-is_selective sp = (sp.prompt || not (is_none sp.without)) || (not (is_none sp.from_at) || not (is_none sp.to_at))
+is_selective sp =
+    ((sp.prompt || not (is_none sp.without)) || (not (is_none sp.from_at) || not (is_none sp.to_at))) || assumes sp
 
 -- some of these is such a span
 abbrev pub is_any_selective : List Span → Bool
@@ -69,6 +77,7 @@ events_in sp = record {
   stalls = sp.stalls;
   without = sp.without;
   cut = is_cut sp.unit && is_selective sp;
+  assume = sp.assume;
 }
 
 -- the instruction in memory at one of these addresses has a tick in the clock

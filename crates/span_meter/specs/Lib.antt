@@ -4,4 +4,5 @@ pub mod Meters
 pub mod SeenText
 pub mod Spoken
 pub mod Events
+pub mod Assumed
 pub mod SpokenMeters

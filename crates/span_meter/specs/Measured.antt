@@ -94,6 +94,6 @@ abbrev pub greatest_of : List ℕ → ℕ
 greatest_of [] = 0
 greatest_of (d ∷ rest) = max d (greatest_of rest)
 
--- how many distances there are, the least and the greatest
+-- how many distances there are, the least and the greatest, with no end of what is assumed
 abbrev pub seen_of : List ℕ → SeenDistances
-seen_of distances = record { pairs = length distances; least = least_of distances; most = greatest_of distances }
+seen_of distances = record { pairs = length distances; least = least_of distances; most = greatest_of distances; assumed = None }

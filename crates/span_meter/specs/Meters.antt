@@ -27,7 +27,7 @@ watched meters = map (λ m. ends_of m.edges) meters
 
 -- what one meter says
 abbrev pub seen_by : Meter → SeenDistances
-seen_by m = record { pairs = m.pairs; least = m.least; most = m.most }
+seen_by m = record { pairs = m.pairs; least = m.least; most = m.most; assumed = None }
 
 -- what all say
 abbrev pub seen_so_far : Meters → List SeenDistances

@@ -5,30 +5,37 @@ ghost use Rattle.span_meter.specs.Events.{events_in};
 ghost use Rattle.span_meter.specs.SpokenMeters as spec_meters;
 
 use crate::levels::has_edge;
-use crate::meter::Meter;
 use crate::pins::ShownPins;
 use crate::selective::is_selective;
+use crate::spoken_span::SpokenSpan;
 use block_core::{Conduct, MachineConduct};
 use pin_matrix::{Span, SpanUnit};
 
-/// The meter of a span after a clock, by the pins before it and what is told after it.
+/// What is known of a span after a clock, by the pins before it and what is told after it.
 pub(crate) fn after_told(
     span: &Span,
     clock: u64,
     before: ShownPins,
     told: &Conduct,
-    meter: Meter,
-) -> Meter
-    ensures { result ≡ spec_meters.after_told clock before told.now span.now meter }
+    known: SpokenSpan,
+) -> SpokenSpan
+    ensures { result ≡ spec_meters.after_told clock before told.now span.now known }
 {
     let did = conduct_of(clock, span.machine, told);
+    let assumed = known.assumed.after(clock, span.assume.as_slice(), &did);
+    if assumed.is_over_by(clock) {
+        return SpokenSpan { assumed, ..known };
+    }
     let pins = ShownPins {
         level: told.level,
         direction: told.direction,
     };
     let from = from_comes(span, before, pins, &did);
     let to = to_comes(span, before, pins, &did);
-    meter.after_mark(clock, from, to, is_dropped(span, &did))
+    let meter = known
+        .meter
+        .after_mark(clock, from, to, is_dropped(span, &did));
+    SpokenSpan { meter, assumed }
 }
 
 /// What the machine with this number did in the clock, where that is the clock of note that is told of.

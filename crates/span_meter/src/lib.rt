@@ -1,6 +1,7 @@
 //! A trace that measures spans: how many clocks pass from each from-edge to the first to-edge after it.
 #![tactic(auto)]
 
+mod assumed;
 mod edges;
 mod events;
 mod laws;
@@ -11,6 +12,7 @@ mod pins;
 mod seen;
 mod selective;
 mod spoken;
+mod spoken_span;
 mod trace;
 
 pub use laws::{a_distance_is_that_of_a_pair, a_plain_span_measures_every_pair};

@@ -47,6 +47,7 @@ impl Meter {
             pairs: self.pairs,
             least: self.least,
             most: self.most,
+            assumed: None,
         }
     }
 

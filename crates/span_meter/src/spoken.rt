@@ -3,13 +3,13 @@ ghost use Rattle.std.specs.Prelude.{◌≡◌, ◌<◌, Some, List, [], false, I
 ghost use Rattle.span_meter.specs.declared.pins.ShownPins.{ShownPins};
 ghost use Rattle.span_meter.specs.Events.{SpanEvents, events_in};
 ghost use Rattle.span_meter.specs.SpokenMeters as spec;
-ghost use Rattle.span_meter.specs.SpokenMeters.{AreTimely, HasSpoken, spoken_so_far, spoken_told};
+ghost use Rattle.span_meter.specs.SpokenMeters.{AreTimely, HasSpoken, fresh_spoken, spoken_so_far, spoken_told};
 
+use crate::edges::Edges;
 use crate::events::after_told;
-use crate::meter::Meter;
 use crate::pins::ShownPins;
 use crate::seen::SeenDistances;
-use crate::trace::{begin_all, meters_of};
+use crate::spoken_span::SpokenSpan;
 use block_core::Conduct;
 use pin_matrix::Span;
 use sample_trace::{Trace, TraceFailed};
@@ -21,8 +21,10 @@ use std::marker::Model;
 pub struct SpokenMeter<'a> {
     first: ShownPins,
     last: ShownPins,
+    /// The last clock that has gone by.
+    gone: Option<u64>,
     spans: &'a [Span],
-    meters: Vec<Meter>,
+    known: Vec<SpokenSpan>,
 }
 
 impl<'a> Model for SpokenMeter<'a> {
@@ -31,9 +33,9 @@ impl<'a> Model for SpokenMeter<'a> {
 
     ghost Value = { SpokenMeters };
 
-    ghost view = { λ t. record { first = t.first; last = t.last; spans = t.spans.now; meters = t.meters.items } };
+    ghost view = { λ t. record { first = t.first; last = t.last; gone = t.gone; spans = t.spans.now; known = t.known.items } };
 
-    ghost invariant = { λ t. length t.meters.items ≡ length t.spans.now };
+    ghost invariant = { λ t. length t.known.items ≡ length t.spans.now };
 }
 
 impl<'a> SpokenMeter<'a> {
@@ -46,12 +48,13 @@ impl<'a> SpokenMeter<'a> {
     ) -> Result<SpokenMeter<'a>, AllocError>
         ensures { IfOk result (λ t. HasSpoken pins (map events_in spans.now) [] t) }
     {
-        let meters = meters_of(alloc, spans)?;
+        let known = known_of(alloc, spans)?;
         Ok(SpokenMeter {
             first: pins,
             last: pins,
+            gone: None,
             spans,
-            meters,
+            known,
         })
     }
 
@@ -60,7 +63,7 @@ impl<'a> SpokenMeter<'a> {
         requires { span < length (spoken_so_far self.now) }
         ensures { slice_get (spoken_so_far self.now) span ≡ Some result }
     {
-        self.meters[span].seen()
+        self.known[span].seen(self.gone)
     }
 }
 
@@ -80,12 +83,14 @@ impl<'a> Trace<Conduct> for SpokenMeter<'a> {
 
     fn begin(&mut self) -> Result<(), TraceFailed> {
         self.last = self.first;
-        begin_all(&mut self.meters);
+        self.gone = None;
+        begin_each(&mut self.known);
         Ok(())
     }
 
     fn sample(&mut self, clock: u64, shown: &Conduct) -> Result<(), TraceFailed> {
-        tell_each(self.spans, &mut self.meters, clock, self.last, shown);
+        tell_each(self.spans, &mut self.known, clock, self.last, shown);
+        self.gone = Some(clock);
         self.last = ShownPins {
             level: shown.level,
             direction: shown.direction,
@@ -93,7 +98,9 @@ impl<'a> Trace<Conduct> for SpokenMeter<'a> {
         Ok(())
     }
 
-    fn end(&mut self, _clock: u64) -> Result<(), TraceFailed> {
+    fn end(&mut self, clock: u64) -> Result<(), TraceFailed> {
+        let gone = clock.checked_sub(1);
+        self.gone = gone;
         Ok(())
     }
 
@@ -102,12 +109,39 @@ impl<'a> Trace<Conduct> for SpokenMeter<'a> {
     }
 }
 
-/// Tells the meter of each span of a clock, by the pins before it and what is told after it.
-fn tell_each(spans: &[Span], meters: &mut [Meter], clock: u64, before: ShownPins, told: &Conduct)
-    ensures { meters.new ≡ spec.tell_each clock before told.now spans.now meters.old }
+/// What is known of each span before the first clock.
+fn known_of(alloc: Global, spans: &[Span]) -> Result<Vec<SpokenSpan>, AllocError>
+    ensures { IfOk result (λ known. known.items ≡ map (λ s. fresh_spoken s.meter.edges) known.items
+        × length known.items ≡ length spans.now) }
 {
-    let many = spans.len().min(meters.len());
+    let mut known = Vec::with_capacity(alloc, spans.len())?;
+    for span in spans {
+        known.push(SpokenSpan::new(Edges::of(span)))?;
+    }
+    Ok(known)
+}
+
+/// What is known of each begins anew.
+fn begin_each(known: &mut [SpokenSpan])
+    ensures { known.new ≡ map (λ s. fresh_spoken s.meter.edges) known.old }
+{
+    for span in known {
+        *span = SpokenSpan::new(span.meter.edges);
+    }
+}
+
+/// Each span is told of a clock, by the pins before it and what is told after it.
+fn tell_each(
+    spans: &[Span],
+    known: &mut [SpokenSpan],
+    clock: u64,
+    before: ShownPins,
+    told: &Conduct,
+)
+    ensures { known.new ≡ spec.tell_each clock before told.now spans.now known.old }
+{
+    let many = spans.len().min(known.len());
     for place in 0..many {
-        meters[place] = after_told(&spans[place], clock, before, told, meters[place]);
+        known[place] = after_told(&spans[place], clock, before, told, known[place]);
     }
 }

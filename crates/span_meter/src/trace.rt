@@ -93,7 +93,7 @@ impl Trace<Sample> for SpanMeter {
 }
 
 /// A meter for each span.
-pub(crate) fn meters_of(alloc: Global, spans: &[Span]) -> Result<Vec<Meter>, AllocError>
+fn meters_of(alloc: Global, spans: &[Span]) -> Result<Vec<Meter>, AllocError>
     ensures { IfOk result (λ meters. meters.items ≡ map (λ m. fresh m.edges) meters.items
         × watched meters.items ≡ map ends_in spans.now) }
 {
@@ -105,7 +105,7 @@ pub(crate) fn meters_of(alloc: Global, spans: &[Span]) -> Result<Vec<Meter>, All
 }
 
 /// Each meter begins anew.
-pub(crate) fn begin_all(meters: &mut [Meter])
+fn begin_all(meters: &mut [Meter])
     ensures { meters.new ≡ map (λ m. fresh m.edges) meters.old }
 {
     for meter in meters {

@@ -51,6 +51,8 @@ pub record AreRuns : Type 0 where
   pub stimulus : (start : Run) (lines : List Line) (clock : ℕ) → (hosted_at start lines clock).run ≡ run_from start (host_of start lines) clock
   pub excused : (sp : Span) (memory : List ℕ) (seen : ℕ → ℕ) (host : ℕ → Due) (states : ℕ → BlockState) (clock : ℕ) → IsPlain sp
       → (marks_over sp memory seen host states clock).excused ≡ false
+  pub misses : (sp : Span) (memory : List ℕ) (seen : ℕ → ℕ) (host : ℕ → Due) (states : ℕ → BlockState) (clock : ℕ) → IsPlain sp
+      → (marks_over sp memory seen host states clock).misses ≡ false
   pub memory : (start : Run) (host : ℕ → Due) (clock : ℕ) → (run_from start host clock).memory ≡ start.memory
 
 -- a machine that may not write the span's pins leaves them
@@ -174,4 +176,8 @@ bad_visit_is_broken runs levels tested stays u sp ticks c alone b = record { clo
 
   broken : IsBrokenBy (is_bounded sp) sp.min (most_or sp.min sp.max) (marks_over sp u.memory (seen_beside u []) (host_of (first_run u) []) (state_beside u []))
   broken = subst (λ (x : ℕ × ℕ). IsBrokenBy (is_bounded sp) x.0 x.1 (marks_over sp u.memory (seen_beside u []) (host_of (first_run u) []) (state_beside u []))) bounds
-      (bad_visit_breaks levels tested u sp c.machine (seen_beside u []) (host_of (first_run u) []) (state_beside u []) c.simple (λ k. runs.excused sp u.memory (seen_beside u []) (host_of (first_run u) []) (state_beside u []) k c.simple.plain) (run_alone runs u sp c.machine c.configured c.simple alone) (λ i. (each_visit stays u sp c i).single) (starts_there runs u sp c.machine _ c.configured c.simple c.begins) b)
+      (bad_visit_breaks levels tested u sp c.machine (seen_beside u []) (host_of (first_run u) []) (state_beside u []) c.simple
+      (record {
+        excused = λ k. runs.excused sp u.memory (seen_beside u []) (host_of (first_run u) []) (state_beside u []) k c.simple.plain;
+        misses = λ k. runs.misses sp u.memory (seen_beside u []) (host_of (first_run u) []) (state_beside u []) k c.simple.plain;
+      }) (run_alone runs u sp c.machine c.configured c.simple alone) (λ i. (each_visit stays u sp c i).single) (starts_there runs u sp c.machine _ c.configured c.simple c.begins) b)

@@ -15,7 +15,7 @@ use Rattle.span_step.specs.Courses.{Rules, watched, followed, start, delay_ticks
 use Rattle.span_step.specs.Laws.{first_cause}
 use Rattle.span_step.specs.Steps.{context_steps, rules_of}
 use Rattle.span_refuted.specs.OneWay.{instruction_at}
-use Rattle.span_refuted.proofs.Single.{Watch, Tick, IsSingle, end}
+use Rattle.span_refuted.proofs.Single.{Watch, Tick, IsSingle, end, met}
 
 -- no late tick at an unnamed address came, and an address is known
 pub record IsCalm (c : Causes) : Type 0 where
@@ -34,17 +34,17 @@ calm_end : (s : MachineSetup) (sp : Span) (op : Op) (o : ContextOutcome) (k : Co
 unfolding prompt
 calm_end s sp op o k a = calm_delay (rules_of s sp k.address) op.delay _ (calm_tick (rules_of s sp k.address) _ (start false k a) refl (record { u3 = refl; u4 = refl }))
 
-some_of : (a b c d : Bool) (x : Cause) → c ≡ false → d ≡ false → first_cause (record { u1 = a; u2 = b; u3 = c; u4 = d }) ≡ Some x
-    → (first_cause (record { u1 = a; u2 = b; u3 = c; u4 = d }) ≡ Some U1) ⊎ (first_cause (record { u1 = a; u2 = b; u3 = c; u4 = d }) ≡ Some U2)
-some_of true b c d x h k e = inl refl
-some_of false true c d x h k e = inr refl
-some_of false false c d x h k e = absurd (bad (rw (h, k) at e)) where
+some_of : (a b c d e : Bool) (x : Cause) → c ≡ false → d ≡ false → e ≡ false → first_cause (record { u1 = a; u2 = b; u3 = c; u4 = d; u6 = e }) ≡ Some x
+    → (first_cause (record { u1 = a; u2 = b; u3 = c; u4 = d; u6 = e }) ≡ Some U1) ⊎ (first_cause (record { u1 = a; u2 = b; u3 = c; u4 = d; u6 = e }) ≡ Some U2)
+some_of true b c d e x h k l q = inl refl
+some_of false true c d e x h k l q = inr refl
+some_of false false c d e x h k l q = absurd (bad (rw (h, k, l) at q)) where
   bad : None ≡ Some x → ⊥
   bad q = cc
 
 -- the first cause of such a step is U1 or U2
 pub calm_cause : (u : Setup) (sp : Span) (s : MachineSetup) (k : Context) (a : Ages) (x : Cause) → IsSingle u sp s k → first_cause (context_steps u sp k a).causes ≡ Some x
     → (first_cause (context_steps u sp k a).causes ≡ Some U1) ⊎ (first_cause (context_steps u sp k a).causes ≡ Some U2)
-calm_cause u sp s k a x h e = some_of _ _ _ _ x calm.u3 calm.u4 e where
+calm_cause u sp s k a x h e = some_of _ _ _ _ _ x calm.u3 calm.u4 (met h a) e where
   calm : IsCalm (context_steps u sp k a).causes
   calm = rw (h.step a) (let c = calm_end s sp (instruction_at u s k.address) h.outcome k a in record { u3 = c.u3; u4 = c.u4 })

@@ -25,12 +25,20 @@ AreExact bounded m most c Empty = Unit {0}
 AreExact true m most c (Between lo hi) = (lo ≤ hi) × ((hi ≤ most) × (IsSince m c lo × IsSince m c hi))
 AreExact false m most c (Between lo hi) = lo ≤ most → IsSince m c lo
 
--- no clock excuses a from-edge, so that a span in ticks speaks of each
-abbrev pub IsFree : (ℕ → Mark) → Type 0
-IsFree m = (c : ℕ) → (m c).excused ≡ false
+-- no clock excuses a from-edge or misses what is assumed, so that a span in ticks speaks of each
+pub record IsFree (m : ℕ → Mark) : Type 0 where
+  pub excused : (c : ℕ) → (m c).excused ≡ false
+  pub misses : (c : ℕ) → (m c).misses ≡ false
+
+absent : (b : Bool) → b ≡ false → b ≡ true → ⊥
+absent b e h = let x : false ≡ true = sym e ∙ h in cc
 
 spoken : (m : ℕ → Mark) (s end : ℕ) → IsFree m → IsSpokenOf Ticks m s end
-spoken m s end free = record { free = λ c after before. free c; unbroken = tt }
+spoken m s end free = record {
+  free = λ c after before. free.excused c;
+  assumed = λ f c misses from before. absurd (absent (m f).misses (free.misses f) misses);
+  unbroken = tt;
+}
 
 -- the span doesn't hold up to some clock
 abbrev pub IsBrokenBy : (bounded : Bool) (min max : ℕ) → (ℕ → Mark) → Type 0

@@ -11,28 +11,35 @@ use Rattle.span_step.specs.Laws.{first_cause}
 use Rattle.span_bounds.specs.Sums.{join}
 use Rattle.span_refuted.proofs.Single.{Watch, Tick}
 
--- no cause is there
+-- no cause is there that a tick adds
 pub record IsClean (c : Causes) : Type 0 where
   pub u1 : c.u1 ≡ false
   pub u2 : c.u2 ≡ false
   pub u3 : c.u3 ≡ false
   pub u4 : c.u4 ≡ false
 
-pub clean_none : (c : Causes) → IsClean c → first_cause c ≡ None
-clean_none c h = rw (h.u1, h.u2, h.u3, h.u4) refl
+pub clean_none : (c : Causes) → IsClean c → c.u6 ≡ false → first_cause c ≡ None
+clean_none c h met = rw (h.u1, h.u2, h.u3, h.u4, met) refl
 
 some_none : {P A : Type 0} {a : A} → Some a ≡ None → P
 some_none e = cc
 
-none_by : (a b c d : Bool) → first_cause (record { u1 = a; u2 = b; u3 = c; u4 = d }) ≡ None → IsClean (record { u1 = a; u2 = b; u3 = c; u4 = d })
-none_by false false false false h = record { u1 = refl; u2 = refl; u3 = refl; u4 = refl }
-none_by true b c d h = some_none h
-none_by false true c d h = some_none h
-none_by false false true d h = some_none h
-none_by false false false true h = some_none h
+none_by : (a b c d e : Bool) → first_cause (record { u1 = a; u2 = b; u3 = c; u4 = d; u6 = e }) ≡ None → IsClean (record { u1 = a; u2 = b; u3 = c; u4 = d; u6 = e })
+none_by false false false false e h = record { u1 = refl; u2 = refl; u3 = refl; u4 = refl }
+none_by true b c d e h = some_none h
+none_by false true c d e h = some_none h
+none_by false false true d e h = some_none h
+none_by false false false true e h = some_none h
 
 pub none_clean : (c : Causes) → first_cause c ≡ None → IsClean c
-none_clean c h = none_by c.u1 c.u2 c.u3 c.u4 h
+none_clean c h = let p = none_by c.u1 c.u2 c.u3 c.u4 c.u6 h in record { u1 = p.u1; u2 = p.u2; u3 = p.u3; u4 = p.u4 }
+
+-- whatever U6 is
+pub but_met : (c : Causes) → IsClean c → IsClean (record c { u6 = false })
+but_met c h = record { u1 = h.u1; u2 = h.u2; u3 = h.u3; u4 = h.u4 }
+
+pub met_too : (c : Causes) → IsClean (record c { u6 = false }) → IsClean c
+met_too c h = record { u1 = h.u1; u2 = h.u2; u3 = h.u3; u4 = h.u4 }
 
 or_left : (a b : Bool) → (a || b) ≡ false → a ≡ false
 or_left true b h = h

@@ -1,7 +1,10 @@
 -- A table as a list of rows, from what it says of each number.
-use Rattle.std.proofs.Common.{◌≡◌, ℕ, zero, suc, ◌+◌, ◌/◌, ◌%◌, ◌<◌, ◌≤◌, ◌==◌, Bool, true, false, cond, nat_lt, Some, None, List, [], ◌∷◌, refl, ◌∙◌, inl, inr, arith}
-use Rattle.std.proofs.lemmas.Bool.{cases_lt}
+use Rattle.std.proofs.Common.{◌≡◌, ℕ, zero, suc, ◌+◌, ◌*◌, ◌/◌, ◌%◌, ◌<◌, ◌≤◌, ◌==◌, Bool, true, false, cond, nat_lt, Some, None, List, [], ◌∷◌, refl, ◌∙◌, inl, inr, arith}
+use Rattle.std.proofs.Math.Nat.{div-lt_iff_lt-mul}
+use Rattle.std.proofs.lemmas.Bool.{and_parts, cases_lt}
 use Rattle.std.proofs.lemmas.Bool.Decides.{nat_tests}
+use Rattle.pin_matrix.specs.Followed.{followed}
+use Rattle.pin_matrix.specs.declared.assume.Follow.{Follow}
 use Rattle.pin_matrix.specs.declared.setup.Setup.{Setup}
 use Rattle.pin_matrix.specs.declared.span.Span.{Span}
 use Rattle.span_step.specs.declared.ages.Ages.{Ages}
@@ -9,45 +12,61 @@ use Rattle.span_step.specs.declared.ages.Ages.TheVariants.{Empty}
 use Rattle.span_step.specs.declared.stepped.Next.{Next}
 use Rattle.span_step.specs.Contexts.{Context, is_placed, is_small}
 use Rattle.span_step.specs.Laws.{AllPlaced, first_cause}
+use Rattle.span_step.specs.Narrowing.{nexts_of}
 use Rattle.span_step.specs.Steps.{context_steps}
 use Rattle.span_bounds.specs.declared.entry.Entry.{Entry}
 use Rattle.span_bounds.specs.declared.entry.Entry.TheVariants.{Absent, Present}
 use Rattle.span_bounds.specs.declared.row.Row.{Row}
-use Rattle.span_bounds.specs.Numbers.{number_of, context_at, known_at}
+use Rattle.span_bounds.specs.Numbers.{contexts, number_of, context_at, known_at}
 use Rattle.span_bounds.specs.Tables.{entry_at, LiesAt, IsTableFrom, EachRow, AllLieIn, IsProvable, start_context}
 use Rattle.span_bounds.specs.Edges.{AllLie}
 use Rattle.span_refuted.proofs.Joining.{clean_none}
 use Rattle.span_refuted.proofs.Closing.{IsGoodRow}
 use Rattle.span_refuted.proofs.Visiting.{StaysPlaced}
 
--- what a law of span_bounds says: the context at a number has it, and a context in range has a number below 139,392
+-- what a law of span_bounds says: the context at a number has it, and a context in range has a number below their count
 pub record AreNumbers : Type 0 where
-  pub below : (k : Context) → is_placed k.address k.x k.y ≡ true → number_of k < 139392
-  pub context : (k : Context) → is_placed k.address k.x k.y ≡ true → context_at (number_of k) ≡ k
-  pub number : (n : ℕ) → number_of (context_at n) ≡ n
+  pub below : (d : Follow) (k : Context) → is_placed d k.address k.x k.y ≡ true → number_of d k < contexts d
+  pub context : (d : Follow) (k : Context) → is_placed d k.address k.x k.y ≡ true → context_at d (number_of d k) ≡ k
+  pub number : (d : Follow) (n : ℕ) → number_of d (context_at d n) ≡ n
 
 -- an entry's row before others
-abbrev pub with_row : ℕ → Entry → List Row → List Row
-with_row n Absent rows = rows
-with_row n (Present a) rows = record { context = context_at n; ages = a } ∷ rows
+abbrev pub with_row : Follow → ℕ → Entry → List Row → List Row
+with_row d n Absent rows = rows
+with_row d n (Present a) rows = record { context = context_at d n; ages = a } ∷ rows
 
 -- the rows of m numbers from n on
-unfoldable pub rows_of : (ℕ → Entry) → (n m : ℕ) → List Row
-rows_of f n zero = []
-rows_of f n (suc m) = with_row n (f n) (rows_of f (n + 1) m)
+unfoldable pub rows_of : Follow → (ℕ → Entry) → (n m : ℕ) → List Row
+rows_of d f n zero = []
+rows_of d f n (suc m) = with_row d n (f n) (rows_of d f (n + 1) m)
 
-small_known : (n : ℕ) → n < 33 → is_small (known_at n) ≡ true
-small_known n l = on (n == 32) refl where
-  on : (z : Bool) → (n == 32) ≡ z → is_small (cond z None (Some n)) ≡ true
+small_known : (b n : ℕ) → n < b + 2 → is_small b (known_at b n) ≡ true
+small_known b n l = on (n == b + 1) refl where
+  on : (z : Bool) → (n == b + 1) ≡ z → is_small b (cond z None (Some n)) ≡ true
   on true e = refl
   on false e = grind (arith, nat_tests)
 
-address_below : (i : ℕ) → i < 139392 → nat_lt (i / 4356) 32 ≡ true
-address_below i l = let h : i / 4356 < 32 = omega arith in grind (arith, nat_tests)
+below_parts : (i n : ℕ) → i < 4 * n → i / 4 < n
+below_parts i n l = omega arith
 
-pub placed_at : (i : ℕ) → i < 139392 → is_placed (context_at i).address (context_at i).x (context_at i).y ≡ true
+divided : (n w h : ℕ) → 0 < w → n < w * h → n / w < h
+divided n w h p l = (div-lt_iff_lt-mul {k = w} {x = n} {y = h} p).1 (let e : h * w ≡ w * h = omega arith in omega arith)
+
+rest_below : (n b : ℕ) → n % (b + 2) < b + 2
+rest_below n b = omega arith
+
+address_fits : (d : Follow) (i : ℕ) → i < contexts d → i / 4 / (d.y + 2) / (d.x + 2) < 32
+unfolding contexts
+address_fits d i l = divided (i / 4 / (d.y + 2)) (d.x + 2) 32 (omega arith) (divided (i / 4) (d.y + 2) ((d.x + 2) * 32) (omega arith) (below_parts i ((d.y + 2) * ((d.x + 2) * 32)) l))
+
+address_below : (d : Follow) (i : ℕ) → i < contexts d → nat_lt (i / 4 / (d.y + 2) / (d.x + 2)) 32 ≡ true
+address_below d i l = decide _ (address_fits d i l) where
+  decide : (a : ℕ) → a < 32 → nat_lt a 32 ≡ true
+  decide a h = grind (arith, nat_tests)
+
+pub placed_at : (d : Follow) (i : ℕ) → i < contexts d → is_placed d (context_at d i).address (context_at d i).x (context_at d i).y ≡ true
 unfolding context_at
-placed_at i l = rw (address_below i l, small_known (i / 132 % 33) (omega arith), small_known (i / 4 % 33) (omega arith)) refl
+placed_at d i l = rw (address_below d i l, small_known d.x (i / 4 / (d.y + 2) % (d.x + 2)) (rest_below (i / 4 / (d.y + 2)) d.x), small_known d.y (i / 4 % (d.y + 2)) (rest_below (i / 4) d.y)) refl
 
 less_more : (m n p : ℕ) → m ≤ n → nat_lt n (p + 1) ≡ true → nat_lt m (p + 1) ≡ true
 less_more m n p l t = grind (arith, nat_tests)
@@ -55,18 +74,18 @@ less_more m n p l t = grind (arith, nat_tests)
 less_next : (n : ℕ) → nat_lt n (n + 1) ≡ true
 less_next n = grind (arith, nat_tests)
 
-from_less : (rows : List Row) (m n : ℕ) → m ≤ n → IsTableFrom n rows → IsTableFrom m rows
-from_less [] m n l h = tt
-from_less (r ∷ rows) m n l h = (h.0, (less_more m n _ l h.1.0, h.1.1))
+from_less : (d : Follow) (rows : List Row) (m n : ℕ) → m ≤ n → IsTableFrom d n rows → IsTableFrom d m rows
+from_less d [] m n l h = tt
+from_less d (r ∷ rows) m n l h = (h.0, (less_more m n _ l h.1.0, h.1.1))
 
-with_table : AreNumbers → (n : ℕ) (e : Entry) (rows : List Row) → n < 139392 → IsTableFrom (n + 1) rows → IsTableFrom n (with_row n e rows)
-with_table nums n Absent rows l h = from_less rows n (n + 1) (omega arith) h
-with_table nums n (Present a) rows l h = rw (nums.number n) (placed_at n l, (less_next n, h))
+with_table : AreNumbers → (d : Follow) (n : ℕ) (e : Entry) (rows : List Row) → n < contexts d → IsTableFrom d (n + 1) rows → IsTableFrom d n (with_row d n e rows)
+with_table nums d n Absent rows l h = from_less d rows n (n + 1) (omega arith) h
+with_table nums d n (Present a) rows l h = rw (nums.number d n) (placed_at d n l, (less_next n, h))
 
-pub table_of : AreNumbers → (f : ℕ → Entry) (n m : ℕ) → n + m ≤ 139392 → IsTableFrom n (rows_of f n m)
+pub table_of : AreNumbers → (d : Follow) (f : ℕ → Entry) (n m : ℕ) → n + m ≤ contexts d → IsTableFrom d n (rows_of d f n m)
 unfolding rows_of
-table_of nums f n zero l = tt
-table_of nums f n (suc m) l = with_table nums n (f n) _ (omega arith) (table_of nums f (n + 1) m (omega arith))
+table_of nums d f n zero l = tt
+table_of nums d f n (suc m) l = with_table nums d n (f n) _ (omega arith) (table_of nums d f (n + 1) m (omega arith))
 
 same_test : (n : ℕ) → (n == n) ≡ true
 same_test n = grind (arith, nat_tests)
@@ -74,57 +93,61 @@ same_test n = grind (arith, nat_tests)
 other_test : (n i : ℕ) → n < i → (n == i) ≡ false
 other_test n i l = grind (arith, nat_tests)
 
-absent_with : AreNumbers → (n i : ℕ) (e : Entry) (rows : List Row) → i < n → entry_at rows i ≡ Absent → entry_at (with_row n e rows) i ≡ Absent
-absent_with nums n i Absent rows l h = h
-absent_with nums n i (Present a) rows l h = rw (nums.number n, (let q : (n == i) ≡ false = grind (arith, nat_tests) in q)) h
+absent_with : AreNumbers → (d : Follow) (n i : ℕ) (e : Entry) (rows : List Row) → i < n → entry_at d rows i ≡ Absent → entry_at d (with_row d n e rows) i ≡ Absent
+absent_with nums d n i Absent rows l h = h
+absent_with nums d n i (Present a) rows l h = rw (nums.number d n, (let q : (n == i) ≡ false = grind (arith, nat_tests) in q)) h
 
-absent_above : AreNumbers → (f : ℕ → Entry) (n m i : ℕ) → i < n → entry_at (rows_of f n m) i ≡ Absent
+absent_above : AreNumbers → (d : Follow) (f : ℕ → Entry) (n m i : ℕ) → i < n → entry_at d (rows_of d f n m) i ≡ Absent
 unfolding rows_of
-absent_above nums f n zero i l = refl
-absent_above nums f n (suc m) i l = absent_with nums n i (f n) _ l (absent_above nums f (n + 1) m i (omega arith))
+absent_above nums d f n zero i l = refl
+absent_above nums d f n (suc m) i l = absent_with nums d n i (f n) _ l (absent_above nums d f (n + 1) m i (omega arith))
 
-here : AreNumbers → (f : ℕ → Entry) (n m : ℕ) (e : Entry) → entry_at (with_row n e (rows_of f (n + 1) m)) n ≡ e
-here nums f n m Absent = absent_above nums f (n + 1) m n (omega arith)
-here nums f n m (Present a) = rw (nums.number n, same_test n) refl
+here : AreNumbers → (d : Follow) (f : ℕ → Entry) (n m : ℕ) (e : Entry) → entry_at d (with_row d n e (rows_of d f (n + 1) m)) n ≡ e
+here nums d f n m Absent = absent_above nums d f (n + 1) m n (omega arith)
+here nums d f n m (Present a) = rw (nums.number d n, same_test n) refl
 
-there : AreNumbers → (n i : ℕ) (e : Entry) (rows : List Row) → n < i → entry_at (with_row n e rows) i ≡ entry_at rows i
-there nums n i Absent rows l = refl
-there nums n i (Present a) rows l = rw (nums.number n, other_test n i l) refl
+there : AreNumbers → (d : Follow) (n i : ℕ) (e : Entry) (rows : List Row) → n < i → entry_at d (with_row d n e rows) i ≡ entry_at d rows i
+there nums d n i Absent rows l = refl
+there nums d n i (Present a) rows l = rw (nums.number d n, other_test n i l) refl
 
-pub entry_of : AreNumbers → (f : ℕ → Entry) (n m i : ℕ) → n ≤ i → i < n + m → entry_at (rows_of f n m) i ≡ f i
+pub entry_of : AreNumbers → (d : Follow) (f : ℕ → Entry) (n m i : ℕ) → n ≤ i → i < n + m → entry_at d (rows_of d f n m) i ≡ f i
 unfolding rows_of
-entry_of nums f n zero i l k = absurd (omega arith)
-entry_of nums f n (suc m) i l k = elim (cases_lt n i) [
-  | inl less ↦ there nums n i (f n) _ less ∙ entry_of nums f (n + 1) m i (omega arith) (omega arith)
-  | inr same ↦ (let e : i ≡ n = omega arith in rw e (here nums f n m (f n)))
+entry_of nums d f n zero i l k = absurd (omega arith)
+entry_of nums d f n (suc m) i l k = elim (cases_lt n i) [
+  | inl less ↦ there nums d n i (f n) _ less ∙ entry_of nums d f (n + 1) m i (omega arith) (omega arith)
+  | inr same ↦ (let e : i ≡ n = omega arith in rw e (here nums d f n m (f n)))
 ]
 
-each_with : (P : Row → Type 0) (n : ℕ) (e : Entry) (rows : List Row) → ((a : Ages) → e ≡ Present a → P (record { context = context_at n; ages = a })) → EachRow P rows → EachRow P (with_row n e rows)
-each_with P n Absent rows h k = k
-each_with P n (Present a) rows h k = (h a refl, k)
+each_with : (d : Follow) (P : Row → Type 0) (n : ℕ) (e : Entry) (rows : List Row) → ((a : Ages) → e ≡ Present a → P (record { context = context_at d n; ages = a })) → EachRow P rows → EachRow P (with_row d n e rows)
+each_with d P n Absent rows h k = k
+each_with d P n (Present a) rows h k = (h a refl, k)
 
-pub each_of : (P : Row → Type 0) (f : ℕ → Entry) (n m : ℕ) → ((i : ℕ) (a : Ages) → i < n + m → f i ≡ Present a → P (record { context = context_at i; ages = a })) → EachRow P (rows_of f n m)
+pub each_of : (d : Follow) (P : Row → Type 0) (f : ℕ → Entry) (n m : ℕ) → ((i : ℕ) (a : Ages) → i < n + m → f i ≡ Present a → P (record { context = context_at d i; ages = a })) → EachRow P (rows_of d f n m)
 unfolding rows_of
-each_of P f n zero h = tt
-each_of P f n (suc m) h = each_with P n (f n) _ (λ a e. h n a (omega arith) e) (each_of P f (n + 1) m (λ i a l e. h i a (omega arith) e))
+each_of d P f n zero h = tt
+each_of d P f n (suc m) h = each_with d P n (f n) _ (λ a e. h n a (omega arith) e) (each_of d P f (n + 1) m (λ i a l e. h i a (omega arith) e))
 
 lies_same : (a : Ages) (e f : Entry) → e ≡ f → LiesAt a f → LiesAt a e
 lies_same a e f q h = rw q h
 
-all_lie : AreNumbers → (f : ℕ → Entry) (ns : List Next) → AllPlaced ns → AllLie f ns → AllLieIn (rows_of f 0 139392) ns
-all_lie nums f [] p h = tt
-all_lie nums f (n ∷ ns) p h =
-    (lies_same n.ages _ _ (entry_of nums f 0 139392 (number_of n.context) (omega arith) (let l = nums.below n.context p.0 in omega arith)) h.0, all_lie nums f ns p.1 h.1)
+all_lie : AreNumbers → (d : Follow) (f : ℕ → Entry) (ns : List Next) → AllPlaced d ns → AllLie d f ns → AllLieIn d (rows_of d f 0 (contexts d)) ns
+all_lie nums d f [] p h = tt
+all_lie nums d f (n ∷ ns) p h =
+    (lies_same n.ages _ _ (entry_of nums d f 0 (contexts d) (number_of d n.context) (omega arith) (let l = nums.below d n.context p.0 in omega (arith, l))) h.0, all_lie nums d f ns p.1 h.1)
 
 -- a table that holds the start, and each of whose rows leads into it and is good, proves its span
-pub provable_by : AreNumbers → StaysPlaced → (u : Setup) (sp : Span) (f : ℕ → Entry) → number_of (start_context u sp) < 139392 → LiesAt Empty (f (number_of (start_context u sp)))
-    → ((i : ℕ) (a : Ages) → f i ≡ Present a → IsGoodRow u sp f (context_at i) a) → IsProvable u sp
-provable_by nums stays u sp f l begins rows = record {
-  rows = rows_of f 0 139392;
-  table = table_of nums f 0 139392 (omega arith);
-  closed = record {
-    starts = lies_same Empty _ _ (entry_of nums f 0 139392 _ (omega arith) (omega arith)) begins;
-    steps = each_of (λ r. AllLieIn (rows_of f 0 139392) (context_steps u sp r.context r.ages).nexts) f 0 139392 (λ i a k e. all_lie nums f _ (stays u sp (context_at i) a (placed_at i (omega arith))) (rows i a e).lies);
-  };
-  good = each_of (λ r. first_cause (context_steps u sp r.context r.ages).causes ≡ None) f 0 139392 (λ i a k e. clean_none _ (rows i a e).clean);
-}
+pub provable_by : AreNumbers → StaysPlaced → (u : Setup) (sp : Span) (f : ℕ → Entry) → number_of (followed sp) (start_context u sp) < contexts (followed sp) → LiesAt Empty (f (number_of (followed sp) (start_context u sp)))
+    → ((i : ℕ) (a : Ages) → f i ≡ Present a → IsGoodRow u sp f (context_at (followed sp) i) a) → IsProvable u sp
+provable_by nums stays u sp f l begins rows =
+    let d : Follow = followed sp in
+    let all : List Row = rows_of d f 0 (contexts d) in
+    record {
+      rows = all;
+      table = table_of nums d f 0 (contexts d) (omega arith);
+      closed = record {
+        starts = lies_same Empty _ _ (entry_of nums d f 0 (contexts d) _ (omega arith) (omega (arith, l))) begins;
+        steps = each_of d (λ r. AllLieIn d all (nexts_of (context_steps u sp r.context r.ages))) f 0 (contexts d)
+            (λ i a k e. all_lie nums d f _ (stays u sp (context_at d i) a (and_parts (nat_lt (context_at d i).address 32) _ (placed_at d i (omega (arith, k)))).0) (rows i a e).lies);
+      };
+      good = each_of d (λ r. first_cause (context_steps u sp r.context r.ages).causes ≡ None) f 0 (contexts d) (λ i a k e. clean_none _ (rows i a e).clean (rows i a e).met);
+    }

@@ -1,6 +1,8 @@
 -- The visits of a machine without choice: each is in range, at the address that the machine comes to, and has one next.
-use Rattle.std.proofs.Common.{◌≡◌, ℕ, zero, suc, ◌+◌, ◌<◌, Bool, true, false, ◌&&◌, nat_lt, cond, Some, None, refl, subst, ◌∙◌, ap, arith}
+use Rattle.std.proofs.Common.{◌≡◌, ℕ, zero, suc, ◌+◌, ◌<◌, Bool, true, false, ◌&&◌, nat_le, nat_lt, cond, Some, None, refl, subst, ◌∙◌, ap, arith}
+use Rattle.std.proofs.lemmas.Bool.{and_parts}
 use Rattle.std.proofs.lemmas.Bool.Decides.{nat_tests}
+use Rattle.pin_matrix.specs.Followed.{followed}
 use Rattle.pin_matrix.specs.declared.machine.MachineSetup.{MachineSetup}
 use Rattle.pin_matrix.specs.declared.setup.Setup.{Setup}
 use Rattle.pin_matrix.specs.declared.span.Span.{Span}
@@ -9,35 +11,26 @@ use Rattle.span_step.specs.declared.stepped.Next.{Next}
 use Rattle.span_step.specs.Contexts.{Context, is_placed, is_small}
 use Rattle.span_step.specs.Outcomes.{ContextOutcome}
 use Rattle.span_step.specs.Courses.{start}
-use Rattle.span_step.specs.Steps.{address_after, next_address, bounds_of, rules_of, context_steps}
+use Rattle.span_step.specs.Narrowing.{followed_to, nexts_of}
+use Rattle.span_step.specs.Steps.{next_address, bounds_of, rules_of, context_steps}
 use Rattle.span_step.specs.Laws.{AllPlaced}
-use Rattle.span_bounds.specs.Tables.{known_of, started, start_context}
+use Rattle.span_bounds.specs.Tables.{started, start_context}
 use Rattle.span_refuted.specs.OneWay.{has_one_way, instruction_at, goes_to, reached, LeavesNoChoice}
 use Rattle.span_refuted.specs.Visits.{visit}
-use Rattle.span_refuted.proofs.Single.{IsSingle, single, end, course}
+use Rattle.span_refuted.proofs.Single.{IsSingle, single, end, course, landed_at, nexts}
 use Rattle.span_refuted.proofs.Joining.{AreSmall, followed_small}
 
 -- what a law of span_step says: after a context in range each next one is in range
 abbrev pub StaysPlaced : Type 0
-StaysPlaced = (u : Setup) (sp : Span) (k : Context) (a : Ages) → is_placed k.address k.x k.y ≡ true → AllPlaced (context_steps u sp k a).nexts
+StaysPlaced = (u : Setup) (sp : Span) (k : Context) (a : Ages) → nat_lt k.address 32 ≡ true → AllPlaced (followed sp) (nexts_of (context_steps u sp k a))
 
 -- the one next of a step from a context at an instruction with one way
 abbrev pub landed : (u : Setup) (sp : Span) (s : MachineSetup) (k : Context) → ContextOutcome → Ages → Next
-landed u sp s k o a = record {
-  context = record {
-    address = address_after o.jump (next_address s k.address);
-    x = o.x;
-    y = o.y;
-    from = (end s sp (instruction_at u s k.address) o k a).from;
-    to = (end s sp (instruction_at u s k.address) o k a).to;
-  };
-  ages = (end s sp (instruction_at u s k.address) o k a).ages;
-  passes = (end s sp (instruction_at u s k.address) o k a).passes;
-}
+landed u sp s k o a = landed_at sp (next_address s k.address) o (end s sp (instruction_at u s k.address) o k a)
 
-known_small : (n : ℕ) → is_small (known_of n) ≡ true
-known_small n = on (nat_lt n 32) refl where
-  on : (z : Bool) → nat_lt n 32 ≡ z → is_small (cond z (Some n) None) ≡ true
+known_small : (most n : ℕ) → is_small most (followed_to most (Some n)) ≡ true
+known_small most n = on (nat_le n most) refl where
+  on : (z : Bool) → nat_le n most ≡ z → is_small most (cond z (Some n) None) ≡ true
   on true e = e
   on false e = refl
 
@@ -47,12 +40,12 @@ all_true a b c h k l = rw (h, k, l) refl
 below_test : (n : ℕ) → n < 32 → nat_lt n 32 ≡ true
 below_test n h = grind (arith, nat_tests)
 
-started_placed : (s : MachineSetup) (u : Setup) (sp : Span) → is_placed (started (Some s) u sp).address (started (Some s) u sp).x (started (Some s) u sp).y ≡ true
-started_placed s u sp = all_true _ _ _ (below_test s.start s.start_in_memory) (known_small s.x) (known_small s.y)
+started_placed : (s : MachineSetup) (u : Setup) (sp : Span) → is_placed (followed sp) (started (Some s) u sp).address (started (Some s) u sp).x (started (Some s) u sp).y ≡ true
+started_placed s u sp = all_true _ _ _ (below_test s.start s.start_in_memory) (known_small (followed sp).x s.x) (known_small (followed sp).y s.y)
 
 -- what is so of each visit
 pub record IsVisit (u : Setup) (sp : Span) (s : MachineSetup) (i : ℕ) : Type 0 where
-  pub placed : is_placed (visit u sp i).0.address (visit u sp i).0.x (visit u sp i).0.y ≡ true
+  pub placed : is_placed (followed sp) (visit u sp i).0.address (visit u sp i).0.x (visit u sp i).0.y ≡ true
   pub address : (visit u sp i).0.address ≡ reached u s i
   pub small : AreSmall ((bounds_of sp s).1 + 1) (visit u sp i).1
   pub single : IsSingle u sp s (visit u sp i).0
@@ -60,7 +53,7 @@ pub record IsVisit (u : Setup) (sp : Span) (s : MachineSetup) (i : ℕ) : Type 0
 pub next_visit : (u : Setup) (sp : Span) (s : MachineSetup) (i : ℕ) → (h : IsSingle u sp s (visit u sp i).0)
     → visit u sp (suc i) ≡ ((landed u sp s (visit u sp i).0 h.outcome (visit u sp i).1).context, (landed u sp s (visit u sp i).0 h.outcome (visit u sp i).1).ages)
 unfolding visit
-next_visit u sp s i h = rw (h.step (visit u sp i).1) refl
+next_visit u sp s i h = rw (nexts h (visit u sp i).1) refl
 
 one_way_at : (u : Setup) (s : MachineSetup) (a b : ℕ) → a ≡ b → has_one_way (instruction_at u s b).act s ≡ true → has_one_way (instruction_at u s a).act s ≡ true
 one_way_at u s a b e h = rw e h
@@ -80,8 +73,11 @@ visit_after u sp c i stays h = record {
   next : visit u sp (suc i) ≡ ((landed u sp c.machine (visit u sp i).0 h.single.outcome (visit u sp i).1).context, (landed u sp c.machine (visit u sp i).0 h.single.outcome (visit u sp i).1).ages)
   next = next_visit u sp c.machine i h.single
 
-  placed : is_placed (landed u sp c.machine (visit u sp i).0 h.single.outcome (visit u sp i).1).context.address h.single.outcome.x h.single.outcome.y ≡ true
-  placed = (subst (λ s. AllPlaced s.nexts) (h.single.step (visit u sp i).1) (stays u sp (visit u sp i).0 (visit u sp i).1 h.placed)).0
+  there : Next
+  there = landed u sp c.machine (visit u sp i).0 h.single.outcome (visit u sp i).1
+
+  placed : is_placed (followed sp) there.context.address there.context.x there.context.y ≡ true
+  placed = (subst (AllPlaced (followed sp)) (nexts h.single (visit u sp i).1) (stays u sp (visit u sp i).0 (visit u sp i).1 (and_parts (nat_lt (visit u sp i).0.address 32) _ h.placed).0)).0
 
   address : (visit u sp (suc i)).0.address ≡ reached u c.machine (suc i)
   address = rw next (h.single.goes ∙ ap (λ a. goes_to (instruction_at u c.machine a).act (next_address c.machine a)) h.address)

@@ -25,7 +25,7 @@ use Rattle.span_check.specs.Runs.{marks_over}
 use Rattle.span_refuted.specs.OneWay.{instruction_at, IsSimple}
 use Rattle.span_refuted.specs.Visits.{visit, cause_at, HasBadVisit}
 use Rattle.span_refuted.proofs.Single.{Watch, Tick, IsSingle, end, course}
-use Rattle.span_refuted.proofs.Joining.{IsClean, clean_joined, clean_none}
+use Rattle.span_refuted.proofs.Joining.{IsClean, but_met, clean_joined, clean_none}
 use Rattle.span_refuted.proofs.Visiting.{next_visit}
 use Rattle.span_refuted.proofs.Registers.{IsRest, IsTick, first_tick, delay_tick as delay_acts}
 use Rattle.span_refuted.proofs.Exact.{IsFree, IsBrokenBy, IsRuled}
@@ -137,7 +137,7 @@ clean_start : IsClean no_causes
 clean_start = record { u1 = refl; u2 = refl; u3 = refl; u4 = refl }
 
 clean_ended : (u : Setup) (sp : Span) (s : MachineSetup) (i : ℕ) → (h : IsSingle u sp s (visit u sp i).0) → IsClean (end s sp (instruction_at u s (visit u sp i).0.address) h.outcome (visit u sp i).0 (visit u sp i).1).causes → cause_at u sp i ≡ None
-clean_ended u sp s i h c = rw (h.step (visit u sp i).1) (clean_none _ (clean_joined no_causes _ clean_start c))
+clean_ended u sp s i h c = rw (h.step (visit u sp i).1) (clean_none _ (but_met _ (clean_joined no_causes _ clean_start c)) refl)
 
 stops_at : (least : ℕ) (max : Option ℕ) → is_some max ≡ false → least ≤ most_or least max + 1
 stops_at least None e = omega arith

@@ -6,6 +6,7 @@ use Rattle.pio_encode.specs.declared.act.OutDestination.TheVariants as out_desti
 use Rattle.pio_encode.specs.declared.act.SetDestination.TheVariants as set_destination
 use Rattle.pio_encode.specs.declared.act.WaitSource.TheVariants as wait_source
 use Rattle.pio_encode.specs.Word.{reading_of, act_of, delay_of, side_of, set_at}
+use Rattle.pin_matrix.specs.Assumptions.{follow_of, raised_x, raised_y}
 use Rattle.pin_matrix.specs.declared.mapping.Mapping.{Mapping}
 use Rattle.pin_matrix.specs.declared.machine.MachineSetup.{MachineSetup}
 use Rattle.pin_matrix.specs.declared.setup.Setup.{Setup}
@@ -15,6 +16,7 @@ use Rattle.pin_matrix.specs.declared.span.Span.{Span}
 use Rattle.pin_matrix.specs.declared.span.SpanUnit.TheVariants.{Ticks}
 use Rattle.span_step.specs.declared.cause.Cause.TheVariants.{U1, U2}
 use Rattle.span_step.specs.Courses.{prompt, courses, watched}
+use Rattle.span_step.specs.Narrowing.{narrowed, narrowing_after, nexts_of, with_assumptions}
 use Rattle.span_step.specs.Outcomes.{outcomes, is_wild, may_stall}
 use Rattle.span_step.specs.Steps.{bounds_of, rules_of, visit_of, with_end, with_outcome, step_by, context_steps}
 use Rattle.span_bounds.specs.Tables.{start_context}
@@ -107,6 +109,7 @@ high_time min max ordered bounded = record {
   without = [];
   from_at = [];
   to_at = [];
+  assume = [];
   named = refl;
   machine_in_block = omega arith;
   from_pin_is_a_pin = omega arith;
@@ -136,6 +139,7 @@ high_time_from min fits = record {
   without = [];
   from_at = [];
   to_at = [];
+  assume = [];
   named = refl;
   machine_in_block = omega arith;
   from_pin_is_a_pin = omega arith;
@@ -157,24 +161,24 @@ stuck = block (57345 ∷ 1 ∷ [])
 -- two ticks are asked of the blink, and one comes; one is asked, and comes again and again; four are allowed of a high time
 -- without end
 blink-row : (cause_at blink (high_time 2 2 (omega arith) (omega arith)) 0 ≡ None) × (cause_at blink (high_time 2 2 (omega arith) (omega arith)) 1 ≡ Some U2)
-unfolding blink visit start_context context_steps step_by with_outcome with_end visit_of rules_of bounds_of courses prompt watched outcomes is_wild may_stall reading_of act_of delay_of side_of set_at
+unfolding blink visit start_context context_steps nexts_of narrowed narrowing_after with_assumptions follow_of raised_x raised_y step_by with_outcome with_end visit_of rules_of bounds_of courses prompt watched outcomes is_wild may_stall reading_of act_of delay_of side_of set_at
 blink-row = (refl, refl)
 
 blink-good-row : (cause_at blink (high_time 1 1 (omega arith) (omega arith)) 1 ≡ None) × (cause_at blink (high_time 1 1 (omega arith) (omega arith)) 3 ≡ None)
-unfolding blink visit start_context context_steps step_by with_outcome with_end visit_of rules_of bounds_of courses prompt watched outcomes is_wild may_stall reading_of act_of delay_of side_of set_at
+unfolding blink visit start_context context_steps nexts_of narrowed narrowing_after with_assumptions follow_of raised_x raised_y step_by with_outcome with_end visit_of rules_of bounds_of courses prompt watched outcomes is_wild may_stall reading_of act_of delay_of side_of set_at
 blink-good-row = (refl, refl)
 
 stuck-row : (cause_at stuck (high_time 0 4 (omega arith) (omega arith)) 4 ≡ None) × (cause_at stuck (high_time 0 4 (omega arith) (omega arith)) 5 ≡ Some U1)
-unfolding stuck visit start_context context_steps step_by with_outcome with_end visit_of rules_of bounds_of courses prompt watched outcomes is_wild may_stall reading_of act_of delay_of side_of set_at
+unfolding stuck visit start_context context_steps nexts_of narrowed narrowing_after with_assumptions follow_of raised_x raised_y step_by with_outcome with_end visit_of rules_of bounds_of courses prompt watched outcomes is_wild may_stall reading_of act_of delay_of side_of set_at
 stuck-row = (refl, refl)
 
 -- with a least bound alone two ticks are missing as before, and a high time without end is right
 blink-freely-row : (cause_at blink (high_time_from 1 (omega arith)) 1 ≡ None) × (cause_at blink (high_time_from 2 (omega arith)) 1 ≡ Some U2)
-unfolding blink visit start_context context_steps step_by with_outcome with_end visit_of rules_of bounds_of courses prompt watched outcomes is_wild may_stall reading_of act_of delay_of side_of set_at
+unfolding blink visit start_context context_steps nexts_of narrowed narrowing_after with_assumptions follow_of raised_x raised_y step_by with_outcome with_end visit_of rules_of bounds_of courses prompt watched outcomes is_wild may_stall reading_of act_of delay_of side_of set_at
 blink-freely-row = (refl, refl)
 
 stuck-freely-row : (cause_at stuck (high_time_from 4 (omega arith)) 5 ≡ None) × (cause_at stuck (high_time_from 4 (omega arith)) 6 ≡ None)
-unfolding stuck visit start_context context_steps step_by with_outcome with_end visit_of rules_of bounds_of courses prompt watched outcomes is_wild may_stall reading_of act_of delay_of side_of set_at
+unfolding stuck visit start_context context_steps nexts_of narrowed narrowing_after with_assumptions follow_of raised_x raised_y step_by with_outcome with_end visit_of rules_of bounds_of courses prompt watched outcomes is_wild may_stall reading_of act_of delay_of side_of set_at
 stuck-freely-row = (refl, refl)
 
 -- the blink leaves no choice: it comes to addresses 0 and 1 in turn
@@ -204,7 +208,7 @@ ways = (refl, refl)
 blink-choice-row : LeavesNoChoice blink (high_time 2 2 (omega arith) (omega arith))
 unfolding blink
 blink-choice-row = record {
-  simple = record { from = refl; to = refl; from_any = refl; to_any = refl; plain = record { waits = refl; leaves = refl } };
+  simple = record { from = refl; to = refl; from_any = refl; to_any = refl; plain = record { waits = refl; leaves = refl; assumes = refl } };
   machine = machine;
   configured = refl;
   begins = refl;

@@ -84,7 +84,8 @@ reached u s zero = s.start
 reached u s (suc i) =
     goes_to (instruction_at u s (reached u s i)).act (next_address s (reached u s i))
 
--- both events of the span are edges of levels, which any instruction may make, and it has neither `prompt` nor `without`
+-- both events of the span are edges of levels, which any instruction may make, and it has neither `prompt` nor `without` nor
+-- an assumption
 pub record IsSimple (sp : Span) : Type 0 where
   pub from : sp.from_signal ≡ Some Level
   pub to : sp.to_signal ≡ Some Level

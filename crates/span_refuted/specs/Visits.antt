@@ -14,6 +14,7 @@ use Rattle.span_step.specs.declared.stepped.Next.{Next}
 use Rattle.span_step.specs.declared.stepped.Stepped.{Stepped}
 use Rattle.span_step.specs.Contexts.{Context}
 use Rattle.span_step.specs.Laws.{first_cause}
+use Rattle.span_step.specs.Narrowing.{nexts_of}
 use Rattle.span_step.specs.Steps.{context_steps}
 use Rattle.span_bounds.specs.Tables.{start_context}
 
@@ -27,7 +28,7 @@ first_next (n ∷ ns) v = (n.context, n.ages)
 unfoldable pub visit : Setup → Span → ℕ → Context × Ages
 visit u sp zero = (start_context u sp, Empty)
 visit u sp (suc i) =
-    let v = visit u sp i in first_next (context_steps u sp v.0 v.1).nexts v
+    let v = visit u sp i in first_next (nexts_of (context_steps u sp v.0 v.1)) v
 
 -- the step from a visit
 abbrev pub step_from : Setup → Span → ℕ → Stepped

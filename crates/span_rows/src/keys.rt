@@ -66,6 +66,8 @@ pub struct Keys<'a> {
     pub stalls: &'a str,
     pub prompt: bool,
     pub without: &'a str,
+    /// Assumptions with a semicolon and a blank between: `1 x 3..5 y 0..9; 4 x 0..0`.
+    pub assume: &'a str,
 }
 
 /// No side-set.
@@ -104,6 +106,7 @@ impl<'a> Keys<'a> {
             stalls: "",
             prompt: false,
             without: "",
+            assume: "",
         }
     }
 
@@ -182,12 +185,13 @@ impl<'a> Keys<'a> {
         Some(true)
     }
 
-    /// Takes a key of what the span leaves out: whether it is one.
+    /// Takes a key of what the span leaves out or assumes: whether it is one.
     fn take_of_waits(&mut self, key: &str, value: &'a str) -> Option<bool> {
         match key {
             "stalls" => self.stalls = value,
             "prompt" => self.prompt = truth(value)?,
             "without" => self.without = value,
+            "assume" => self.assume = value,
             _ => return Some(false),
         }
         Some(true)

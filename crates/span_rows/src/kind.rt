@@ -97,7 +97,7 @@ static SPAN_BLOCK_KINDS: [(&str, SpanBlockKind); 3] = [
 fn tell_line(alloc: Global, kind: SpanLineKind, asked: &str, text: &mut String) -> Option<()> {
     match kind {
         SpanLineKind::Step => tell_step(alloc, asked, text),
-        SpanLineKind::TableFile => tell_file(alloc, asked.as_bytes(), text),
+        SpanLineKind::TableFile => tell_file(alloc, asked, text),
         SpanLineKind::VerdictLine => tell_verdict_line(alloc, asked, text),
         SpanLineKind::RefusalLine => tell_refusal_line(alloc, asked, text),
     }

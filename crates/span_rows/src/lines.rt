@@ -1,7 +1,4 @@
 //! Lines of verdicts and of refusals.
-ghost use Rattle.std.specs.Prelude.{IsTrue};
-ghost use Rattle.span_step.specs.Contexts.{is_small};
-
 use pio_edge::MemSink;
 use pio_encode::Name;
 use span_bounds::{Cause, Context};
@@ -45,12 +42,14 @@ fn tell_taken(sink: &MemSink, passes: bool, text: &mut String) -> Option<()> {
     text.push_str(if passes { "" } else { ", and fails" }).ok()
 }
 
-/// `opens`, `never opens`, the same and ` and closes` or ` and never closes`, with ` under prompt` behind it or without, or a
+/// `opens`, `never opens`, the same and ` and closes` or ` and never closes`, with the premises after ` under ` or without, or a
 /// refusal.
 fn verdict_of(verdict: &str) -> Option<Result<Finding, Refusal>> {
-    let (found, prompt) = match verdict.split_once(" under ") {
-        None => (verdict, false),
-        Some((found, "prompt")) => (found, true),
+    let (found, prompt, assumes) = match verdict.split_once(" under ") {
+        None => (verdict, false, false),
+        Some((found, "prompt")) => (found, true, false),
+        Some((found, "assume")) => (found, false, true),
+        Some((found, "prompt, assume")) => (found, true, true),
         Some(_) => return None,
     };
     let (opening, closes) = match found.split_once(" and ") {
@@ -64,25 +63,27 @@ fn verdict_of(verdict: &str) -> Option<Result<Finding, Refusal>> {
             opens: true,
             closes,
             prompt,
+            assumes,
         })),
         "never opens" => Some(Ok(Finding {
             opens: false,
             closes,
             prompt,
+            assumes,
         })),
         _ => Some(Err(refusal_of(verdict)?)),
     }
 }
 
-/// `shared 3`, or a context with its cause: the address, X and Y (32 where they may be anything), both levels, and `U1`.
+/// `shared 3`, or a context with its cause: the address, X and Y (`any` where they may be anything), both levels, and `U1`.
 fn refusal_of(refusal: &str) -> Option<Refusal> {
     if let Some(machine) = refusal.strip_prefix("shared ") {
         return Some(Refusal::Shared(machine.parse().ok()?));
     }
     let mut words = refusal.split(' ');
     let address: u8 = words.next()?.parse().ok()?;
-    let x = known(words.next()?.parse().ok()?);
-    let y = known(words.next()?.parse().ok()?);
+    let x = known(words.next()?)?;
+    let y = known(words.next()?)?;
     let from = words.next()? == "1";
     let to = words.next()? == "1";
     let cause = cause_of(words.next()?)?;
@@ -96,11 +97,13 @@ fn refusal_of(refusal: &str) -> Option<Refusal> {
     Some(Refusal::Unproved(context, cause))
 }
 
-/// A number below 32, or anything.
-fn known(number: u8) -> Option<u8>
-    ensures { IsTrue (is_small result) }
-{
-    if number < 32 { Some(number) } else { None }
+/// A number, or anything.
+fn known(word: &str) -> Option<Option<u16>> {
+    if word == "any" {
+        Some(None)
+    } else {
+        Some(Some(word.parse().ok()?))
+    }
 }
 
 fn cause_of(word: &str) -> Option<Cause> {
@@ -109,6 +112,7 @@ fn cause_of(word: &str) -> Option<Cause> {
         "U2" => Some(Cause::U2),
         "U3" => Some(Cause::U3),
         "U4" => Some(Cause::U4),
+        "U6" => Some(Cause::U6),
         _ => None,
     }
 }

@@ -4,7 +4,10 @@ ghost use Rattle.std.specs.Option.{ForSome};
 ghost use Rattle.pin_matrix.specs.Spans as spec;
 
 use crate::keys::Keys;
-use pin_matrix::{Addresses, MachineSetup, Mapping, Setup, Span, SpanUnit, is_span_name};
+use pin_matrix::{
+    Addresses, Assumption, Assumptions, MachineSetup, Mapping, Range, Setup, Span, SpanUnit,
+    is_span_name,
+};
 use pio_encode::Name;
 use std::alloc::Global;
 
@@ -56,6 +59,7 @@ pub fn span_of(alloc: Global, keys: &Keys, name: &str) -> Option<Span> {
         return None;
     }
     let max = most_of(keys.min, keys.max)?;
+    let lists = lists_of(alloc, keys)?;
     Some(Span {
         name: name_of(alloc, name)?,
         machine: 0,
@@ -70,9 +74,29 @@ pub fn span_of(alloc: Global, keys: &Keys, name: &str) -> Option<Span> {
         max,
         stalls: Addresses::new(stalls)?,
         prompt: keys.prompt,
+        without: lists.without,
+        from_at: lists.from_at,
+        to_at: lists.to_at,
+        assume: lists.assume,
+    })
+}
+
+/// Lists of a span.
+#[derive(Drop)]
+struct Lists {
+    without: Addresses,
+    from_at: Addresses,
+    to_at: Addresses,
+    assume: Assumptions,
+}
+
+/// The lists of these keys; none where a list isn't one that a span may have, or memory runs out.
+fn lists_of(alloc: Global, keys: &Keys) -> Option<Lists> {
+    Some(Lists {
         without: Addresses::new(addresses_of(alloc, keys.without)?)?,
         from_at: Addresses::new(addresses_of(alloc, keys.from.at)?)?,
         to_at: Addresses::new(addresses_of(alloc, keys.to.at)?)?,
+        assume: Assumptions::new(assumptions_of(alloc, keys.assume)?)?,
     })
 }
 
@@ -108,6 +132,45 @@ fn addresses_of(alloc: Global, list: &str) -> Option<Vec<u8>> {
         }
     }
     Some(addresses)
+}
+
+/// The assumptions of a list with a semicolon and a blank between.
+fn assumptions_of(alloc: Global, list: &str) -> Option<Vec<Assumption>> {
+    let mut assumptions = Vec::new(alloc);
+    for text in list.split("; ") {
+        if !text.is_empty() {
+            assumptions.push(assumption_of(text)?).ok()?;
+        }
+    }
+    Some(assumptions)
+}
+
+/// An assumption: an address, and ranges of registers, as `1 x 3..5 y 0..9`.
+fn assumption_of(text: &str) -> Option<Assumption> {
+    let mut words = text.split(' ');
+    let mut assumption = Assumption {
+        address: words.next()?.parse().ok()?,
+        x: None,
+        y: None,
+    };
+    while let Some(register) = words.next() {
+        let range = range_of(words.next()?)?;
+        match register {
+            "x" => assumption.x = Some(range),
+            "y" => assumption.y = Some(range),
+            _ => return None,
+        }
+    }
+    Some(assumption)
+}
+
+/// A range, as `3..5`, its ends included.
+fn range_of(text: &str) -> Option<Range> {
+    let (lo, hi) = text.split_once("..")?;
+    Some(Range {
+        lo: lo.parse().ok()?,
+        hi: hi.parse().ok()?,
+    })
 }
 
 /// Whether the machine of a span is configured, where it is machine 0.

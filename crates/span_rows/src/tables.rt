@@ -1,16 +1,21 @@
 //! Tables: the first fault of a file, the first flaw of a table, and the table that is derived.
+ghost use Rattle.std.specs.Prelude.{◌≡◌};
+ghost use Rattle.pin_matrix.specs.Followed.{followed};
+
 use crate::programs::{keys_of, setup_of, table_of, told_of};
 use crate::setups::{is_configured, span_of};
-use pin_matrix::{Setup, Span};
+use pin_matrix::{Follow, Setup, Span};
 use pio_edge::MemSink;
 use span_bounds::Table;
 use span_verdict::{Verdict, flaw, is_proof, judge};
 use std::alloc::Global;
 use table_files::{TableFault, put_flaw, put_rechecked, put_table, read_table};
 
-/// Adds the line and the code of a file's first fault, or `read`.
-pub fn tell_file(alloc: Global, bytes: &[u8], text: &mut String) -> Option<()> {
-    match read_table(alloc, bytes) {
+/// Adds the line and the code of a file's first fault, or `read`. A row asks for the file; on a line before it, for how far X and Y
+/// are followed, if it isn't to 31.
+pub fn tell_file(alloc: Global, asked: &str, text: &mut String) -> Option<()> {
+    let (follow, file) = follow_of(asked)?;
+    match read_table(alloc, follow, file.as_bytes()) {
         Ok(table) => {
             drop(table);
             text.push_str("read").ok()
@@ -18,6 +23,18 @@ pub fn tell_file(alloc: Global, bytes: &[u8], text: &mut String) -> Option<()> {
         Err(TableFault::At { line, kind }) => write!(text, "{line} {}", kind.code()).ok(),
         Err(TableFault::Memory) => None,
     }
+}
+
+/// How far X and Y are followed, as the line `follow 40 3` says it, and what comes after this line.
+fn follow_of(asked: &str) -> Option<(Follow, &str)> {
+    let Some(rest) = asked.strip_prefix("follow ") else {
+        return Some((Follow { x: 31, y: 31 }, asked));
+    };
+    let (numbers, file) = rest.split_once('\n')?;
+    let (x, y) = numbers.split_once(' ')?;
+    let x = x.parse().ok()?;
+    let y = y.parse().ok()?;
+    Some((Follow { x, y }, file))
 }
 
 /// Adds the line of a table's first flaw as a row says it and as it is put, and whether the table passes.
@@ -33,7 +50,8 @@ pub fn tell_flaw(
     let keys = keys_of(lines)?;
     let span = span_of(alloc, &keys, "h")?;
     let setup = setup_of(alloc, lines, &keys)?;
-    let table = read_table(alloc, table_of(alloc, lines)?.as_bytes()).ok()?;
+    let follow = span.assume.follow();
+    let table = read_table(alloc, follow, table_of(alloc, lines)?.as_bytes()).ok()?;
     tell_flaw_of(alloc, &table, &setup, &span, seen)
 }
 
@@ -43,7 +61,9 @@ fn tell_flaw_of(
     setup: &Setup,
     span: &Span,
     text: &mut String,
-) -> Option<()> {
+) -> Option<()>
+    requires { table.now.follow ≡ followed span.now }
+{
     if !is_configured(setup, span) {
         return None;
     }

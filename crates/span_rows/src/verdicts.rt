@@ -51,8 +51,8 @@ fn finding_of(table: Table, opens: bool, closes: bool, span: &Span) -> Option<Fi
     found_by(proved, span).ok()
 }
 
-/// Adds whether the span opens, where that is told whether it closes and under which premise, and whether its table
-/// passes.
+/// Adds whether the span opens, where that is told whether it closes and under which premises, and whether its
+/// table passes.
 fn tell_proved(finding: Finding, passes: bool, text: &mut String) -> Result<(), AllocError> {
     let how = if finding.opens {
         "opens"
@@ -64,7 +64,12 @@ fn tell_proved(finding: Finding, passes: bool, text: &mut String) -> Result<(), 
         Some(true) => " and closes",
         Some(false) => " and never closes",
     };
-    let premise = if finding.prompt { " under prompt" } else { "" };
+    let premise = match (finding.prompt, finding.assumes) {
+        (false, false) => "",
+        (true, false) => " under prompt",
+        (false, true) => " under assume",
+        (true, true) => " under prompt, assume",
+    };
     let flaw = if passes {
         ""
     } else {

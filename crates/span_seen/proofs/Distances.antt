@@ -1,6 +1,7 @@
 -- Each distance that a proved span measures is that of a pair of which it speaks, and so within its bounds.
-use Rattle.std.proofs.Common.{◌≡◌, ℕ, zero, suc, ◌+◌, ◌-◌, ◌<◌, ◌≤◌, ◌&&◌, Bool, true, false, cond, ◌⊎◌, inl, inr, Option, Some, None, IsSome, List, [], ◌∷◌, ◌++◌, length, min, max, slice_index_or, refl, sym, ap, ◌∙◌, subst, arith}
+use Rattle.std.proofs.Common.{◌≡◌, ℕ, zero, suc, ◌+◌, ◌-◌, ◌<◌, ◌≤◌, ◌&&◌, Bool, true, false, cond, ◌⊎◌, inl, inr, Option, Some, None, IsSome, List, [], ◌∷◌, ◌++◌, length, take, min, max, slice_index_or, refl, sym, ap, ◌∙◌, subst, arith}
 use Rattle.std.specs.List.{AllByRecursion}
+use Rattle.std.proofs.lemmas.List.{length-take-le}
 use Rattle.pin_matrix.specs.declared.machine.MachineSetup.{MachineSetup}
 use Rattle.pin_matrix.specs.declared.setup.Setup.{Setup}
 use Rattle.pin_matrix.specs.declared.span.Span.{Span}
@@ -11,17 +12,21 @@ use Rattle.block_core.specs.declared.conduct.Conduct.{Conduct}
 use Rattle.block_core.specs.Block.{Run, first_run}
 use Rattle.block_core.specs.Conduct.{conduct_at, conducts}
 use Rattle.block_core.specs.Hosted.{host_of, hosted_at, samples}
-use Rattle.span_check.specs.Holding.{Holds, IsFirstToEdge, IsSpokenOf, IsUpTo}
+use Rattle.span_check.specs.Holding.{Holds, IsAssumed, IsFirstToEdge, IsSpokenOf, IsUpTo}
 use Rattle.span_check.specs.Marks.{Mark, is_broken, mark_of}
 use Rattle.span_check.specs.Proved.{HoldsInEveryRun}
 use Rattle.span_check.specs.Runs.{marks_in, state_beside}
 use Rattle.span_meter.specs.declared.pins.ShownPins.{ShownPins}
 use Rattle.span_meter.specs.declared.seen.SeenDistances.{SeenDistances}
+use Rattle.span_meter.specs.Assumed.{assumed_up_to, marks_before, spoken_seen}
 use Rattle.span_meter.specs.Events.{SpanEvents, events_in, is_cut, is_selective, marks, pins_told}
 use Rattle.span_meter.specs.Measured.{ends_in, greatest_of, least_with, measured, pins_in, seen_of}
 use Rattle.span_meter.specs.Spoken as spoken
 use Rattle.span_meter.specs.Spoken.{AreMarksFrom, IsOfPair, IsPair, spoken}
+use Rattle.span_meter.proofs.PlainSpans.{all_spoken, plain_assumes}
+use Rattle.span_seen.specs.Ends.{IsAssumedUpTo}
 use Rattle.span_seen.specs.Within.{IsUndisturbed, IsWithin, measured_in}
+use Rattle.span_seen.proofs.Ended.{told_end}
 use Rattle.span_seen.proofs.Runs.{pins_before, run_told, told_mark}
 use Rattle.span_seen.proofs.Telling.{IsTold}
 
@@ -70,12 +75,12 @@ unexcused cut m t told end s e pair (suc j) c at low =
 abbrev IsBetween : (min : ℕ) (max : Option ℕ) (d : ℕ) → Type 0
 IsBetween min max d = (min ≤ d) × IsUpTo max d
 
--- nor does a line break it, where the span is cut or no line disturbs it
-pair_between : (unit : SpanUnit) (lo : ℕ) (hi : Option ℕ) (end : ℕ) (cut : Bool) (m : ℕ → Mark) (t : ℕ → spoken.Mark) → unit ≡ Clocks → Holds unit lo hi m end
-    → ((c : ℕ) → IsTold cut (m c) (m (suc c)).excused (t c)) → (cut ≡ true) ⊎ ((c : ℕ) → c < end → (m c).breaks ≡ false)
+-- nor does a line break it, where the span is cut or no line disturbs it; and X and Y are as assumed up to its end
+pair_between : (unit : SpanUnit) (lo : ℕ) (hi : Option ℕ) (n end : ℕ) (cut : Bool) (m : ℕ → Mark) (t : ℕ → spoken.Mark) → unit ≡ Clocks → Holds unit lo hi m n → end ≤ n → IsAssumed m end
+    → ((c : ℕ) → IsTold cut (m c) (m (suc c)).excused (t c)) → (cut ≡ true) ⊎ ((c : ℕ) → c < n → (m c).breaks ≡ false)
     → (d : ℕ) → IsOfPair t end d → IsBetween lo hi d
-pair_between Ticks lo hi end cut m t clocks holds told calm d p = cc
-pair_between Clocks lo hi end cut m t clocks holds told calm d p =
+pair_between Ticks lo hi n end cut m t clocks holds early assumed told calm d p = cc
+pair_between Clocks lo hi n end cut m t clocks holds early assumed told calm d p =
     let s = p.s in
     let e = p.e in
     let pair = p.pair in
@@ -86,12 +91,16 @@ pair_between Clocks lo hi end cut m t clocks holds told calm d p =
     let h = holds s (omega arith) from in
     let ends : IsFirstToEdge m s e = record { after = after; first = λ c low high. sym (told c).to ∙ pair.first c low high; edge = sym (told e).to ∙ pair.to } in
     let unbroken : (c : ℕ) → s < c → c < suc e → (m c).breaks ≡ false = λ c low high. by_either c low high calm in
-    let speaks : IsSpokenOf Clocks m s (suc e) = record { free = λ c low high. unexcused cut m t told end s e pair (e - c) c (omega arith) low; unbroken = unbroken } in
-    let least = h.least e ends within speaks in
-    let most = h.most e ends within speaks in
+    let speaks : IsSpokenOf Clocks m s (suc e) = record {
+      free = λ c low high. unexcused cut m t told end s e pair (e - c) c (omega arith) low;
+      assumed = λ f c misses low high. assumed f c misses low (omega arith);
+      unbroken = unbroken;
+    } in
+    let least = h.least e ends (omega arith) speaks in
+    let most = h.most e ends (omega arith) speaks in
     (omega arith, subst (IsUpTo hi) (let z : suc e - 1 - s ≡ d = omega arith in z) most)
   where
-    by_either : (c : ℕ) → p.s < c → c < suc p.e → (cut ≡ true) ⊎ ((c : ℕ) → c < end → (m c).breaks ≡ false) → (m c).breaks ≡ false
+    by_either : (c : ℕ) → p.s < c → c < suc p.e → (cut ≡ true) ⊎ ((c : ℕ) → c < n → (m c).breaks ≡ false) → (m c).breaks ≡ false
     by_either c low high (inl cuts) = (told c).calm cuts (p.pair.free c low (omega arith))
     by_either c low high (inr undisturbed) = let within = p.pair.within in undisturbed c (omega arith)
 
@@ -129,21 +138,58 @@ calm_or_cut u sp lines n selects Ticks clocks calm = cc
 calm_or_cut u sp lines n true Clocks clocks calm = inl refl
 calm_or_cut u sp lines n false Clocks clocks calm = inr (λ c low. breaks_mark sp u lines c ∙ calm refl c low)
 
-pub all_within : AreOfPairs → (u : Setup) (sp : Span) (s : MachineSetup) → slice_index_or u.machines sp.machine None ≡ Some s → HoldsInEveryRun u sp → sp.unit ≡ Clocks → (lines : List Line) (n : ℕ)
+-- the marks before the end
+marks_taken : (at : ℕ → spoken.Mark) (clock n : ℕ) (ks : List spoken.Mark) → AreMarksFrom at clock ks → AreMarksFrom at clock (take n ks)
+marks_taken at clock zero ks h = tt
+marks_taken at clock (suc n) [] h = tt
+marks_taken at clock (suc n) (k ∷ ks) h = (h.0, marks_taken at (suc clock) n ks h.1)
+
+marks_of_end : (at : ℕ → spoken.Mark) (end : Option ℕ) (ks : List spoken.Mark) → AreMarksFrom at 0 ks → AreMarksFrom at 0 (marks_before end ks)
+marks_of_end at None ks h = h
+marks_of_end at (Some end) ks h = marks_taken at 0 end ks h
+
+-- are those of clocks in which X and Y are as assumed
+record IsEarly (m : ℕ → Mark) (n end : ℕ) : Type 0 where
+  within : end ≤ n
+  assumed : IsAssumed m end
+
+early_end : (m : ℕ → Mark) (n : ℕ) (end : Option ℕ) (ks : List spoken.Mark) → length ks ≡ n → IsAssumedUpTo m n end → IsEarly m n (length (marks_before end ks))
+early_end m n None ks long h = subst (IsEarly m n) (sym long) (record { within = omega arith; assumed = h })
+early_end m n (Some end) ks long h =
+    let low = h.0 in
+    let short : length (take end ks) ≡ end = length-take-le end ks (omega arith) in
+    subst (IsEarly m n) (sym short) (record { within = omega arith; assumed = h.1.assumed })
+
+all_within : AreOfPairs → (u : Setup) (sp : Span) (s : MachineSetup) → slice_index_or u.machines sp.machine None ≡ Some s → HoldsInEveryRun u sp → sp.unit ≡ Clocks → (lines : List Line) (n : ℕ)
     → (is_selective sp ≡ false → IsUndisturbed u sp lines n)
-    → IsWithin sp.min sp.max (seen_of (spoken (marks (events_in sp) 0 (pins_in (first_run u).state) (conducts (first_run u) lines n))))
+    → (end : Option ℕ) → IsAssumedUpTo (marks_in sp u lines) n end
+    → IsWithin sp.min sp.max (seen_of (spoken (marks_before end (marks (events_in sp) 0 (pins_in (first_run u).state) (conducts (first_run u) lines n)))))
 unfolding hosted_at
-all_within pairs u sp s configured holds clocks lines n calm =
+all_within pairs u sp s configured holds clocks lines n calm end assumed =
     let e = events_in sp in
     let start = pins_in (first_run u).state in
     let told = told_from (conduct_at (first_run u) lines) 0 n in
-    let ks = marks e 0 start told in
+    let all = marks e 0 start told in
+    let ks = marks_before end all in
     let t = told_mark u sp lines in
-    let long : length ks ≡ n = length-marks e (conduct_at (first_run u) lines) 0 0 n start in
-    let of : AllByRecursion (IsOfPair t n) (spoken ks) = subst (λ (end : ℕ). AllByRecursion (IsOfPair t end) (spoken ks)) long (pairs t ks (marks_from u sp lines 0 n)) in
-    let between = pair_between sp.unit sp.min sp.max n e.cut (marks_in sp u lines) t clocks (holds.beside lines n) (run_told u sp lines s configured) (calm_or_cut u sp lines n (is_selective sp) sp.unit clocks calm) in
-    let good = seen_between sp.min sp.max (spoken ks) (all_between (IsOfPair t n) (IsBetween sp.min sp.max) between (spoken ks) of) in
-    subst (λ (cs : List Conduct). IsWithin sp.min sp.max (seen_of (spoken (marks e 0 start cs)))) (sym (conducts-from u lines n)) good
+    let long : length all ≡ n = length-marks e (conduct_at (first_run u) lines) 0 0 n start in
+    let early = early_end (marks_in sp u lines) n end all long assumed in
+    let of : AllByRecursion (IsOfPair t (length ks)) (spoken ks) = pairs t ks (marks_of_end t end all (marks_from u sp lines 0 n)) in
+    let between = pair_between sp.unit sp.min sp.max n (length ks) e.cut (marks_in sp u lines) t clocks (holds.beside lines n) early.within early.assumed (run_told u sp lines s configured)
+    (calm_or_cut u sp lines n (is_selective sp) sp.unit clocks calm) in
+    let good = seen_between sp.min sp.max (spoken ks) (all_between (IsOfPair t (length ks)) (IsBetween sp.min sp.max) between (spoken ks) of) in
+    subst (λ (cs : List Conduct). IsWithin sp.min sp.max (seen_of (spoken (marks_before end (marks e 0 start cs))))) (sym (conducts-from u lines n)) good
+
+-- the end that is told changes no distance
+with_end : (lo : ℕ) (hi : Option ℕ) (end : Option ℕ) (seen : SeenDistances) → IsWithin lo hi seen → IsWithin lo hi (record seen { assumed = end })
+with_end lo hi end seen h = record { least = h.least; most = h.most }
+
+spoken_within : AreOfPairs → (u : Setup) (sp : Span) (s : MachineSetup) → slice_index_or u.machines sp.machine None ≡ Some s → HoldsInEveryRun u sp → sp.unit ≡ Clocks → (lines : List Line) (n : ℕ)
+    → (is_selective sp ≡ false → IsUndisturbed u sp lines n) → IsWithin sp.min sp.max (spoken_seen (events_in sp) (pins_in (first_run u).state) (conducts (first_run u) lines n))
+unfolding spoken_seen
+spoken_within pairs u sp s configured holds clocks lines n calm =
+    let end = assumed_up_to (events_in sp) (conducts (first_run u) lines n) in
+    with_end sp.min sp.max end _ (all_within pairs u sp s configured holds clocks lines n calm end (told_end u sp lines s configured n))
 
 -- and: a span that speaks of every pair measures them all
 abbrev pub MeasuresEveryPair : Type 0
@@ -151,9 +197,9 @@ MeasuresEveryPair =
     (start : Run) (sp : Span) (lines : List Line) (n : ℕ) → is_selective sp ≡ false
     → spoken (marks (events_in sp) 0 (pins_in start.state) (conducts start lines n)) ≡ measured (ends_in sp) (pins_in start.state) (samples start lines n)
 
-by_kind : (selects : Bool) (P : SeenDistances → Type 0) (chosen every : List ℕ) → P (seen_of chosen) → (selects ≡ false → chosen ≡ every) → P (cond selects (seen_of chosen) (seen_of every))
+by_kind : (selects : Bool) (P : SeenDistances → Type 0) (chosen every : SeenDistances) → P chosen → (selects ≡ false → chosen ≡ every) → P (cond selects chosen every)
 by_kind true P chosen every h same = h
-by_kind false P chosen every h same = subst (λ (ds : List ℕ). P (seen_of ds)) (same refl) h
+by_kind false P chosen every h same = subst P (same refl) h
 
 pub seen_within : AreOfPairs → MeasuresEveryPair → (u : Setup) (sp : Span) → IsSome (slice_index_or u.machines sp.machine None) → HoldsInEveryRun u sp → sp.unit ≡ Clocks → (lines : List Line) (n : ℕ)
     → (is_selective sp ≡ false → IsUndisturbed u sp lines n) → IsWithin sp.min sp.max (measured_in u sp lines n)
@@ -162,5 +208,7 @@ seen_within pairs every u sp some holds clocks lines n calm = on (slice_index_or
   on None e h = cc
   on (Some s) e h =
       let start = first_run u in
-      by_kind (is_selective sp) (IsWithin sp.min sp.max) (spoken (marks (events_in sp) 0 (pins_in start.state) (conducts start lines n))) (measured (ends_in sp) (pins_in start.state) (samples start lines n))
-      (all_within pairs u sp s e holds clocks lines n calm) (every start sp lines n)
+      let told = conducts start lines n in
+      by_kind (is_selective sp) (IsWithin sp.min sp.max) (spoken_seen (events_in sp) (pins_in start.state) told) (seen_of (measured (ends_in sp) (pins_in start.state) (samples start lines n)))
+      (spoken_within pairs u sp s e holds clocks lines n calm)
+      (λ plain. all_spoken (events_in sp) (pins_in start.state) told (plain_assumes sp plain) ∙ ap seen_of (every start sp lines n plain))

@@ -6,6 +6,7 @@ use Rattle.pin_matrix.specs.Setups.{ids_are_places}
 use Rattle.pin_matrix.specs.declared.machine.MachineSetup.{MachineSetup}
 use Rattle.pin_matrix.specs.declared.setup.Setup.{Setup}
 use Rattle.pin_matrix.specs.declared.span.Span.{Span}
+use Rattle.clock_divider.specs.Timing.{Timing, resumed}
 use Rattle.dreq_pacing.specs.declared.due.Due.{Due}
 use Rattle.dreq_pacing.specs.declared.line.Line.{Line}
 use Rattle.block_core.specs.declared.conduct.Conduct.{Conduct}
@@ -37,39 +38,46 @@ place_id place (suc i) (None ∷ machines) s h e = place_id (place + 1) i machin
 place_id place (suc i) (Some m ∷ machines) s h e =
     place_id (place + 1) i machines s (and_parts (eqb m.id place) (ids_are_places (place + 1) machines) h).1 e ∙ (let z : place + 1 + i ≡ place + suc i = omega arith in z)
 
-first_own : (u : Setup) (sp : Span) (s : MachineSetup) → slice_index_or u.machines sp.machine None ≡ Some s → IsOwn (first_run u).state sp.machine
+pub first_own : (u : Setup) (sp : Span) (s : MachineSetup) → slice_index_or u.machines sp.machine None ≡ Some s → IsOwn (first_run u).state sp.machine 0
 first_own u sp s configured = record {
   slot = first_slot s;
   place = place-start u sp.machine sp.machine_in_block ∙ ap (option_map first_slot) configured;
   number = place_id 0 sp.machine u.machines s u.at_their_places configured ∙ (let z : 0 + sp.machine ≡ sp.machine = omega arith in z);
+  clock_is = refl;
 }
 
-next_own : (d : Due) (r : Run) (id : ℕ) → IsOwn r.state id → IsOwn (next d r).state id
+-- a restart leaves the clock
+pub restart-clock : (restarts : Bool) (t : Timing) → (cond restarts (resumed t) t).clock ≡ t.clock
+restart-clock true t = refl
+restart-clock false t = refl
+
+unfoldable pub next_own : (d : Due) (r : Run) (id c : ℕ) → IsOwn r.state id c → IsOwn (next d r).state id (suc c)
 unfolding settled_slot
-next_own d r id own = record {
+next_own d r id c own = record {
   slot = slot_after (view_of r.memory (seen_in d r) r.state) d own.slot;
   place = place_next d r id ∙ ap (place_after (view_of r.memory (seen_in d r) r.state) d) own.place;
   number = own.number;
+  clock_is = ap (λ n. n + 1) (restart-clock (slice_index_or d.restart own.slot.machine.setup.id false) own.slot.timing ∙ own.clock_is) ∙ (let z : c + 1 ≡ suc c = omega arith in z);
 }
 
 -- in a run
-abbrev run_on : Setup → List Line → ℕ → Run
+abbrev pub run_on : Setup → List Line → ℕ → Run
 run_on u lines c = (hosted_at (first_run u) lines c).run
 
-next_run : (u : Setup) (lines : List Line) (c : ℕ) → run_on u lines (suc c) ≡ next (host_of (first_run u) lines c) (run_on u lines c)
+pub next_run : (u : Setup) (lines : List Line) (c : ℕ) → run_on u lines (suc c) ≡ next (host_of (first_run u) lines c) (run_on u lines c)
 unfolding hosted_at hosted_next
 next_run u lines c = refl
 
-own_on : (u : Setup) (sp : Span) (lines : List Line) (s : MachineSetup) → slice_index_or u.machines sp.machine None ≡ Some s → (c : ℕ) → IsOwn (run_on u lines c).state sp.machine
+own_on : (u : Setup) (sp : Span) (lines : List Line) (s : MachineSetup) → slice_index_or u.machines sp.machine None ≡ Some s → (c : ℕ) → IsOwn (run_on u lines c).state sp.machine c
 unfolding hosted_at
 own_on u sp lines s configured zero = first_own u sp s configured
 own_on u sp lines s configured (suc c) =
-    subst (λ (r : Run). IsOwn r.state sp.machine) (sym (next_run u lines c)) (next_own (host_of (first_run u) lines c) (run_on u lines c) sp.machine (own_on u sp lines s configured c))
+    subst (λ (r : Run). IsOwn r.state sp.machine (suc c)) (sym (next_run u lines c)) (next_own (host_of (first_run u) lines c) (run_on u lines c) sp.machine c (own_on u sp lines s configured c))
 
-memory_on : (u : Setup) (lines : List Line) (c : ℕ) → (run_on u lines c).memory ≡ u.memory
+pub memory_on : (u : Setup) (lines : List Line) (c : ℕ) → (run_on u lines c).memory ≡ u.memory
 memory_on u lines c = ap (λ (r : Run). r.memory) (run-hosted_at (first_run u) lines c) ∙ memory-run_from (first_run u) (host_of (first_run u) lines) c
 
-clock_on : (u : Setup) (lines : List Line) (c : ℕ) → (run_on u lines c).clock ≡ c
+pub clock_on : (u : Setup) (lines : List Line) (c : ℕ) → (run_on u lines c).clock ≡ c
 clock_on u lines c = clock-hosted_at (first_run u) lines c ∙ (let z : 0 + c ≡ c = omega arith in z)
 
 -- the pins that are told before a clock are those at its start
@@ -121,7 +129,7 @@ none_by false o h = refl
 not_now : (n c : ℕ) → n < c → eqb n c ≡ false
 not_now n c h = grind (arith, nat_tests)
 
-untold : (u : Setup) (lines : List Line) (id c : ℕ) → conduct_of c id (conduct_before (first_run u) lines c) ≡ None
+pub untold : (u : Setup) (lines : List Line) (id c : ℕ) → conduct_of c id (conduct_before (first_run u) lines c) ≡ None
 unfolding conduct_before no_conduct
 untold u lines id zero = none_by (eqb (first_run u).clock 0) (slice_index_or nobody id None) (four_none id)
 untold u lines id (suc c) =

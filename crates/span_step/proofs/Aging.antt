@@ -8,9 +8,10 @@ use Rattle.span_step.specs.declared.ages.Ages.TheVariants.{Empty, Between}
 use Rattle.span_step.specs.declared.stepped.Next.{Next}
 use Rattle.span_step.specs.Contexts.{Context}
 use Rattle.span_step.specs.Courses.{Rules, older, with_fresh}
+use Rattle.span_step.specs.Narrowing.{nexts_of}
 use Rattle.span_step.specs.Steps.{machine_steps, context_steps, rules_of}
 use Rattle.span_step.specs.Laws.{AreAlike, GoesLike, AreUpTo, ReachesAge, most_of, most_on, AllUpTo, AllReach}
-use Rattle.span_step.proofs.Kept.{Keeps, Together-step_by}
+use Rattle.span_step.proofs.Kept.{Keeps, Together-step_by, nexts_alike}
 use Rattle.span_step.proofs.Alike.{AnyCauses}
 
 abbrev AnyAges : Ages → Ages → Type 0
@@ -38,6 +39,7 @@ Keeps-up_to r = record {
   joins = λ a b c d h k. tt;
   none = tt;
   wild = tt;
+  unmet = λ z a b h. tt;
 }
 
 abbrev Starts : ℕ → Ages → Ages → Type 0
@@ -72,6 +74,7 @@ Keeps-reaches r n = record {
   joins = λ a b c d h k. tt;
   none = tt;
   wild = tt;
+  unmet = λ z a b h. tt;
 }
 
 up_to_each : (n : ℕ) (ms ns : List Next) → AreAlike (GoesLike (UpTo n)) ms ns → AllUpTo n ms
@@ -88,16 +91,16 @@ max_of : (s : MachineSetup) (sp : Span) (address : ℕ) → (rules_of s sp addre
 unfolding rules_of
 max_of s sp address = refl
 
-pub AllUpTo-context_steps : (u : Setup) (sp : Span) (k : Context) (a : Ages) → AllUpTo (most_of u sp + 1) (context_steps u sp k a).nexts
-unfolding context_steps most_of
+pub AllUpTo-context_steps : (u : Setup) (sp : Span) (k : Context) (a : Ages) → AllUpTo (most_of u sp + 1) (nexts_of (context_steps u sp k a))
+unfolding context_steps most_of nexts_of
 AllUpTo-context_steps u sp k a = on _ where
-  on : (m : Option MachineSetup) → AllUpTo (most_on m sp + 1) (machine_steps m u.memory sp k a).nexts
+  on : (m : Option MachineSetup) → AllUpTo (most_on m sp + 1) (nexts_of (machine_steps m u.memory sp k a))
   on None = tt
-  on (Some s) = rw (← max_of s sp k.address) (up_to_each _ _ _ (Together-step_by s sp _ k AnyAges (UpTo ((rules_of s sp k.address).max + 1)) AnyCauses a a (Keeps-up_to _) tt).nexts)
+  on (Some s) = rw (← max_of s sp k.address) (up_to_each _ _ _ (nexts_alike _ AnyCauses _ _ (Together-step_by s sp _ k AnyAges (UpTo ((rules_of s sp k.address).max + 1)) AnyCauses a a (Keeps-up_to _) tt)))
 
-pub AllReach-context_steps : (u : Setup) (sp : Span) (k : Context) (a : Ages) (n : ℕ) → ReachesAge n a → AllReach (min n (most_of u sp) + 1) (context_steps u sp k a).nexts
-unfolding context_steps most_of
+pub AllReach-context_steps : (u : Setup) (sp : Span) (k : Context) (a : Ages) (n : ℕ) → ReachesAge n a → AllReach (min n (most_of u sp) + 1) (nexts_of (context_steps u sp k a))
+unfolding context_steps most_of nexts_of
 AllReach-context_steps u sp k a n h = on _ where
-  on : (m : Option MachineSetup) → AllReach (min n (most_on m sp) + 1) (machine_steps m u.memory sp k a).nexts
+  on : (m : Option MachineSetup) → AllReach (min n (most_on m sp) + 1) (nexts_of (machine_steps m u.memory sp k a))
   on None = tt
-  on (Some s) = rw (← max_of s sp k.address) (reaches_each _ _ _ (Together-step_by s sp _ k (Starts n) (Reaches (min n (rules_of s sp k.address).max + 1)) AnyCauses a a (Keeps-reaches _ n) h).nexts)
+  on (Some s) = rw (← max_of s sp k.address) (reaches_each _ _ _ (nexts_alike _ AnyCauses _ _ (Together-step_by s sp _ k (Starts n) (Reaches (min n (rules_of s sp k.address).max + 1)) AnyCauses a a (Keeps-reaches _ n) h)))

@@ -9,9 +9,10 @@ use Rattle.span_step.specs.declared.cause.Causes.{Causes}
 use Rattle.span_step.specs.declared.stepped.Next.{Next}
 use Rattle.span_step.specs.Contexts.{Context, is_open}
 use Rattle.span_step.specs.Courses.{Rules, older, with_fresh}
+use Rattle.span_step.specs.Narrowing.{nexts_of}
 use Rattle.span_step.specs.Steps.{machine_steps, context_steps}
 use Rattle.span_step.specs.Laws.{aim_of, AreAlike, GoesLike, OpenAlike, SameAfterEdge}
-use Rattle.span_step.proofs.Kept.{Keeps, Together, Together-step_by}
+use Rattle.span_step.proofs.Kept.{Keeps, Together, Together-step_by, nexts_alike}
 
 -- nothing is said of the causes
 abbrev pub AnyCauses : Causes → Causes → Type 0
@@ -42,6 +43,7 @@ Keeps-open r = record {
   joins = λ a b c d h k. tt;
   none = tt;
   wild = tt;
+  unmet = λ z a b h. tt;
 }
 
 abbrev AnyAges : Ages → Ages → Type 0
@@ -61,6 +63,7 @@ Keeps-edge r = record {
   joins = λ a b c d h k. tt;
   none = tt;
   wild = tt;
+  unmet = λ z a b h. tt;
 }
 
 -- what each rule's ticks keep holds of two steps in a setup
@@ -69,14 +72,14 @@ pub Together-context_steps : (u : Setup) (sp : Span) (k : Context) (S : Ages →
 unfolding context_steps
 Together-context_steps u sp k S R a b keeps h = on _ where
   on : (m : Option MachineSetup) → Together R AnyCauses (machine_steps m u.memory sp k a) (machine_steps m u.memory sp k b)
-  on None = record { nexts = tt; causes = tt; from_edge = refl }
+  on None = record { ends = tt; narrowing = refl; causes = tt; from_edge = refl }
   on (Some s) = Together-step_by s sp _ k S R AnyCauses a b (keeps _) h
 
-pub OpenAlike-context_steps : (u : Setup) (sp : Span) (k : Context) (a b : Ages) → is_open a ≡ is_open b → AreAlike (GoesLike OpenAlike) (context_steps u sp k a).nexts (context_steps u sp k b).nexts
-OpenAlike-context_steps u sp k a b h = (Together-context_steps u sp k BothOpen OpenAlike a b Keeps-open h).nexts
+pub OpenAlike-context_steps : (u : Setup) (sp : Span) (k : Context) (a b : Ages) → is_open a ≡ is_open b → AreAlike (GoesLike OpenAlike) (nexts_of (context_steps u sp k a)) (nexts_of (context_steps u sp k b))
+OpenAlike-context_steps u sp k a b h = nexts_alike OpenAlike AnyCauses _ _ (Together-context_steps u sp k BothOpen OpenAlike a b Keeps-open h)
 
-pub SameAfterEdge-context_steps : (u : Setup) (sp : Span) (k : Context) (a b : Ages) → AreAlike (GoesLike SameAfterEdge) (context_steps u sp k a).nexts (context_steps u sp k b).nexts
-SameAfterEdge-context_steps u sp k a b = (Together-context_steps u sp k AnyAges SameAfterEdge a b Keeps-edge tt).nexts
+pub SameAfterEdge-context_steps : (u : Setup) (sp : Span) (k : Context) (a b : Ages) → AreAlike (GoesLike SameAfterEdge) (nexts_of (context_steps u sp k a)) (nexts_of (context_steps u sp k b))
+SameAfterEdge-context_steps u sp k a b = nexts_alike SameAfterEdge AnyCauses _ _ (Together-context_steps u sp k AnyAges SameAfterEdge a b Keeps-edge tt)
 
 pub from_edge_alike : (u : Setup) (sp : Span) (k : Context) (a b : Ages) → (context_steps u sp k a).from_edge ≡ (context_steps u sp k b).from_edge
 from_edge_alike u sp k a b = (Together-context_steps u sp k AnyAges SameAfterEdge a b Keeps-edge tt).from_edge
@@ -87,5 +90,5 @@ same_contexts [] (n ∷ ns) h = absurd h
 same_contexts (m ∷ ms) [] h = absurd h
 same_contexts (m ∷ ms) (n ∷ ns) h = rw (h.0.context, h.0.passes, same_contexts ms ns h.1) refl
 
-pub contexts_alike : (u : Setup) (sp : Span) (k : Context) (a b : Ages) → map aim_of (context_steps u sp k a).nexts ≡ map aim_of (context_steps u sp k b).nexts
+pub contexts_alike : (u : Setup) (sp : Span) (k : Context) (a b : Ages) → map aim_of (nexts_of (context_steps u sp k a)) ≡ map aim_of (nexts_of (context_steps u sp k b))
 contexts_alike u sp k a b = same_contexts _ _ (SameAfterEdge-context_steps u sp k a b)

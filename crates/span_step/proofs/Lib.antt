@@ -7,3 +7,7 @@ pub mod Aging
 pub mod LeftOut
 pub mod Overdue
 pub mod Placed
+pub mod Pairs
+pub mod Assuming
+pub mod Turns
+pub mod NarrowingRows

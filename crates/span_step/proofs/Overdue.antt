@@ -29,6 +29,7 @@ use Rattle.span_step.specs.declared.stepped.Stepped.{Stepped}
 use Rattle.span_step.specs.Contexts.{Context}
 use Rattle.span_step.specs.Outcomes.{ContextOutcome, outcomes, ways, either_level, unknown_levels, is_wild, taken, after_count}
 use Rattle.span_step.specs.Courses.{Rules, older, watched, start, followed, prompt, courses, joined, delay_ticks, is_above}
+use Rattle.span_step.specs.Narrowing.{narrowing_after, with_held}
 use Rattle.span_step.specs.Steps.{Visit, visit_of, with_end, end_of, with_outcome, nothing_found, machine_steps, context_steps, rules_of, step_by, is_lost, is_left_out}
 use Rattle.span_step.specs.Laws.{ReachesAge, most_of, most_on, first_cause}
 use Rattle.span_step.proofs.LeftOut.{step_left_out}
@@ -135,14 +136,14 @@ prompt_u1 r l k a side o d e b h =
 outcome_u1 : (v : Visit) (found : Stepped) (o : ContextOutcome) → v.left_out ≡ false → v.rules.bounded ≡ true → ReachesAge v.rules.max v.ages → (with_outcome v found o).causes.u1 ≡ true
 unfolding with_outcome courses with_end
 outcome_u1 v found o e b h = by v.stalls where
-  by : (z : Bool) → (fold (λ t ticks. with_end v o t (end_of v ticks)) found (courses z v.side o v.delay)).causes.u1 ≡ true
+  by : (z : Bool) → (fold (λ t ticks. with_end v (with_held found.narrowing o) t (end_of v ticks)) found (courses z v.side o v.delay)).causes.u1 ≡ true
   by true = or_left _ _ (or_right found.causes.u1 _ (prompt_u1 v.rules v.left_out v.context v.ages v.side o v.delay e b h))
   by false = or_right found.causes.u1 _ (prompt_u1 v.rules v.left_out v.context v.ages v.side o v.delay e b h)
 
 pub step_u1 : (s : MachineSetup) (sp : Span) (op : Op) (k : Context) (a : Ages) → is_lost s op ≡ false → is_left_out sp k.address ≡ false → IsSome sp.max → ReachesAge (most_on (Some s) sp) a → (step_by s sp op k a).causes.u1 ≡ true
 unfolding step_by visit_of rules_of
 step_u1 s sp op k a e l b h = rw e
-    (fold_made (with_outcome (visit_of s sp op k a)) (λ t. t.causes.u1 ≡ true) (λ t o. outcome_u1 (visit_of s sp op k a) t o l b h) nothing_found (outcomes op.act s sp k) (outcomes_filled op.act s sp k (or_parts (is_wild op.act) (is_some s.pending) e).0))
+    (fold_made (with_outcome (visit_of s sp op k a)) (λ t. t.causes.u1 ≡ true) (λ t o. outcome_u1 (visit_of s sp op k a) t o l b h) (nothing_found (narrowing_after sp k.address)) (outcomes op.act s sp k) (outcomes_filled op.act s sp k (or_parts (is_wild op.act) (is_some s.pending) e).0))
 
 first_with_u1 : (c : Causes) → c.u1 ≡ true → first_cause c ≡ Some U1
 first_with_u1 c e = rw e refl

@@ -11,7 +11,7 @@ use Rattle.span_step.specs.Contexts.{Context, IsInside, is_open}
 use Rattle.span_step.specs.Courses.{Rules, older, with_fresh, is_above, is_below, tick_causes}
 use Rattle.span_step.specs.Steps.{machine_steps, context_steps}
 use Rattle.span_step.specs.Laws.{AreInside, AllImplied, IsNarrower}
-use Rattle.span_step.proofs.Kept.{Keeps, aged, Together, Together-step_by}
+use Rattle.span_step.proofs.Kept.{Keeps, aged, Together, Together-step_by, nexts_alike}
 
 older_inside : (m : ℕ) (a b : Ages) → IsInside a b → IsInside (older m a) (older m b)
 older_inside m Empty b h = tt
@@ -60,6 +60,7 @@ told_inside r late closes a b c d h k = record {
   u2 = and_more closes _ _ (below_inside r.min c d k);
   u3 = and_more late _ _ (and_more r.bounded _ _ (and_more (not r.named) _ _ (open_inside a b h)));
   u4 = λ e. e;
+  u6 = λ e. e;
 }
 
 aged_inside : (m : ℕ) (late : Bool) (a b : Ages) → IsInside a b → IsInside (aged m late a) (aged m late b)
@@ -79,16 +80,18 @@ Keeps-inside r = record {
     u2 = or_more _ _ _ _ h.u2 k.u2;
     u3 = or_more _ _ _ _ h.u3 k.u3;
     u4 = or_more _ _ _ _ h.u4 k.u4;
+    u6 = or_more _ _ _ _ h.u6 k.u6;
   };
-  none = record { u1 = λ e. e; u2 = λ e. e; u3 = λ e. e; u4 = λ e. e };
-  wild = record { u1 = λ e. e; u2 = λ e. e; u3 = λ e. e; u4 = λ e. e };
+  none = record { u1 = λ e. e; u2 = λ e. e; u3 = λ e. e; u4 = λ e. e; u6 = λ e. e };
+  wild = record { u1 = λ e. e; u2 = λ e. e; u3 = λ e. e; u4 = λ e. e; u6 = λ e. e };
+  unmet = λ z a b h. record { u1 = h.u1; u2 = h.u2; u3 = h.u3; u4 = h.u4; u6 = λ e. e };
 }
 
 within : (s t : Stepped) → Together AreInside AllImplied s t → IsNarrower s t
-within s t h = record { nexts = h.nexts; causes = h.causes; from_edge = h.from_edge }
+within s t h = record { nexts = nexts_alike AreInside AllImplied s t h; causes = h.causes; from_edge = h.from_edge }
 
 on_machine : (m : Option MachineSetup) (memory : List ℕ) (sp : Span) (k : Context) (a b : Ages) → IsInside a b → IsNarrower (machine_steps m memory sp k a) (machine_steps m memory sp k b)
-on_machine None memory sp k a b h = record { nexts = tt; causes = record { u1 = λ e. e; u2 = λ e. e; u3 = λ e. e; u4 = λ e. e }; from_edge = refl }
+on_machine None memory sp k a b h = within _ _ (record { ends = tt; narrowing = refl; causes = record { u1 = λ e. e; u2 = λ e. e; u3 = λ e. e; u4 = λ e. e; u6 = λ e. e }; from_edge = refl })
 on_machine (Some s) memory sp k a b h =
     within _ _ (Together-step_by s sp _ k IsInside AreInside AllImplied a b (Keeps-inside _) h)
 

@@ -3,11 +3,12 @@
 --   is_placed        a context's numbers are in range
 --   IsInside         ages lie within others
 --   is_open          there are ages
-use Rattle.std.specs.Prelude.{ℕ, ◌≤◌, Bool, true, false, ◌&&◌, Option, Some, None, nat_lt}
+use Rattle.std.specs.Prelude.{ℕ, ◌≤◌, Bool, true, false, ◌&&◌, Option, Some, None, nat_le, nat_lt}
+use Rattle.pin_matrix.specs.declared.assume.Follow.{Follow}
 use Rattle.span_step.specs.declared.ages.Ages.{Ages}
 use Rattle.span_step.specs.declared.ages.Ages.TheVariants.{Empty, Between}
 
--- What the checker knows before an instruction: where it lies in memory, X and Y where they are known and below 32, and of the
+-- What the checker knows before an instruction: where it lies in memory, X and Y where they are known and followed, and of the
 -- span's from-pin and to-pin whether the watched signal is high: the level, or the direction where it is out. It never is where
 -- no signal is watched.
 pub record Context : Type 0 where
@@ -17,14 +18,14 @@ pub record Context : Type 0 where
   pub from : Bool
   pub to : Bool
 
--- what is known of X or Y is below 32
-abbrev pub is_small : Option ℕ → Bool
-is_small None = true
-is_small (Some n) = nat_lt n 32
+-- what is known of X or Y is no more than this
+abbrev pub is_small : ℕ → Option ℕ → Bool
+is_small most None = true
+is_small most (Some n) = nat_le n most
 
--- the address is one of the 32, and what is known of X and Y is below 32
-abbrev pub is_placed : ℕ → Option ℕ → Option ℕ → Bool
-is_placed address x y = nat_lt address 32 && (is_small x && is_small y)
+-- the address is one of the 32, and what is known of X and Y is followed so far
+abbrev pub is_placed : Follow → ℕ → Option ℕ → Option ℕ → Bool
+is_placed f address x y = nat_lt address 32 && (is_small f.x x && is_small f.y y)
 
 -- each age of the first is one of the second: no age lies in any ages, and no other ages lie in none
 abbrev pub IsInside : Ages → Ages → Type 0

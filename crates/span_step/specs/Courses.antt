@@ -107,11 +107,11 @@ after_events closes opens ages =
 
 -- no cause is there
 abbrev pub no_causes : Causes
-no_causes = record { u1 = false; u2 = false; u3 = false; u4 = false }
+no_causes = record { u1 = false; u2 = false; u3 = false; u4 = false; u6 = false }
 
 -- the causes of either
 abbrev pub joined : Causes → Causes → Causes
-joined a b = record { u1 = a.u1 || b.u1; u2 = a.u2 || b.u2; u3 = a.u3 || b.u3; u4 = a.u4 || b.u4 }
+joined a b = record { u1 = a.u1 || b.u1; u2 = a.u2 || b.u2; u3 = a.u3 || b.u3; u4 = a.u4 || b.u4; u6 = a.u6 || b.u6 }
 
 -- The causes that one tick adds. U1: an age is above the greatest bound; U2: a to-event comes too early; U3: the machine waits
 -- at an address that isn't named while a from-event is open. Where there is no greatest bound neither U1 nor U3 is asked, since
@@ -122,6 +122,7 @@ tick_causes r late closes before aged = record {
   u2 = closes && is_below r.min aged;
   u3 = late && (r.bounded && (not r.named && is_open before));
   u4 = false;
+  u6 = false;
 }
 
 -- One tick. A late tick doesn't count; any other makes open ages one more. Then the events of the tick come: the edges of what

@@ -6,21 +6,23 @@
 --   most_of          the span's greatest bound in ticks, above which ages are alike
 --   cap_of           the age at which ages stop
 --   ReachesAge       some age is at least this
---   first_cause      the first cause in the order U1 to U4
+--   first_cause      the first cause in the order U1, U2, U3, U4, U6
 --   NonePass         no course passes
 --   AllPlaced        each next context is in range
 use Rattle.std.specs.Prelude.{◌≡◌, ℕ, ◌+◌, ◌≤◌, Bool, true, false, if◌then◌else◌, Option, Some, None, List, [], ◌∷◌, slice_index_or}
+use Rattle.pin_matrix.specs.declared.assume.Follow.{Follow}
 use Rattle.pin_matrix.specs.declared.machine.MachineSetup.{MachineSetup}
 use Rattle.pin_matrix.specs.declared.setup.Setup.{Setup}
 use Rattle.pin_matrix.specs.declared.span.Span.{Span}
 use Rattle.span_step.specs.declared.ages.Ages.{Ages}
 use Rattle.span_step.specs.declared.ages.Ages.TheVariants.{Empty, Between}
 use Rattle.span_step.specs.declared.cause.Cause.{Cause}
-use Rattle.span_step.specs.declared.cause.Cause.TheVariants.{U1, U2, U3, U4}
+use Rattle.span_step.specs.declared.cause.Cause.TheVariants.{U1, U2, U3, U4, U6}
 use Rattle.span_step.specs.declared.cause.Causes.{Causes}
 use Rattle.span_step.specs.declared.stepped.Next.{Next}
 use Rattle.span_step.specs.declared.stepped.Stepped.{Stepped}
 use Rattle.span_step.specs.Contexts.{Context, is_placed, IsInside, is_open}
+use Rattle.span_step.specs.Narrowing.{nexts_of}
 use Rattle.span_step.specs.Steps.{bounds_of}
 
 -- two lists are as long, and the relation holds place by place
@@ -46,6 +48,7 @@ pub record AllImplied (a b : Causes) : Type 0 where
   pub u2 : a.u2 ≡ true → b.u2 ≡ true
   pub u3 : a.u3 ≡ true → b.u3 ≡ true
   pub u4 : a.u4 ≡ true → b.u4 ≡ true
+  pub u6 : a.u6 ≡ true → b.u6 ≡ true
 
 -- the ages lie inside, whether the course passes or not
 abbrev pub AreInside : Bool → Ages → Ages → Type 0
@@ -61,7 +64,7 @@ SameAfterEdge p a b = p ≡ false → a ≡ b
 
 -- a step has the same next contexts with ages inside, no more causes, and the same from-event
 pub record IsNarrower (s t : Stepped) : Type 0 where
-  pub nexts : AreAlike (GoesLike AreInside) s.nexts t.nexts
+  pub nexts : AreAlike (GoesLike AreInside) (nexts_of s) (nexts_of t)
   pub causes : AllImplied s.causes t.causes
   pub from_edge : s.from_edge ≡ t.from_edge
 
@@ -88,10 +91,10 @@ abbrev pub AreUpTo : ℕ → Ages → Type 0
 AreUpTo n Empty = Unit {0}
 AreUpTo n (Between lo hi) = (lo ≤ n) × (hi ≤ n)
 
--- the first cause in the order U1, U2, U3, U4
+-- the first cause in the order U1, U2, U3, U4, U6
 abbrev pub first_cause : Causes → Option Cause
 first_cause c =
-    if c.u1 then Some U1 else if c.u2 then Some U2 else if c.u3 then Some U3 else if c.u4 then Some U4 else None
+    if c.u1 then Some U1 else if c.u2 then Some U2 else if c.u3 then Some U3 else if c.u4 then Some U4 else if c.u6 then Some U6 else None
 
 -- no age of a next is above this
 abbrev pub AllUpTo : ℕ → List Next → Type 0
@@ -109,6 +112,6 @@ NonePass [] = Unit {0}
 NonePass (m ∷ ms) = (m.passes ≡ false) × NonePass ms
 
 -- each next context is in range
-abbrev pub AllPlaced : List Next → Type 0
-AllPlaced [] = Unit {0}
-AllPlaced (m ∷ ms) = (is_placed m.context.address m.context.x m.context.y ≡ true) × AllPlaced ms
+abbrev pub AllPlaced : Follow → List Next → Type 0
+AllPlaced f [] = Unit {0}
+AllPlaced f (m ∷ ms) = (is_placed f m.context.address m.context.x m.context.y ≡ true) × AllPlaced f ms

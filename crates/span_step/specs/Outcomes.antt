@@ -7,7 +7,7 @@
 --   may_stall        an instruction that may wait
 --   taken            whether a JMP is taken, as far as it is known
 --   outcomes         all that an instruction can do
-use Rattle.std.specs.Prelude.{ℕ, ◌-◌, ◌==◌, Bool, true, false, not, ◌&&◌, if◌then◌else◌, Option, Some, None, List, [], ◌∷◌, map, flat_map}
+use Rattle.std.specs.Prelude.{ℕ, ◌+◌, ◌-◌, ◌%◌, ◌^◌, ◌==◌, Bool, true, false, not, ◌&&◌, if◌then◌else◌, Option, Some, None, List, [], ◌∷◌, map, flat_map}
 use Rattle.std.specs.Int.{bit_at}
 use Rattle.pio_encode.specs.declared.act.Act.{Act}
 use Rattle.pio_encode.specs.declared.act.Act.TheVariants.{Jmp, Wait, In, Out, Push, Pull, Mov, Irq, Set, Nothing}
@@ -96,10 +96,10 @@ unknown_levels signal m sp =
 abbrev pub unknown_pins : PinSignal → MachineSetup → Span → Context → List ContextOutcome
 unknown_pins signal s sp k = map (λ l. record (nothing_done k) { from = l.0; to = l.1 }) (unknown_levels signal s.out sp)
 
--- one less where that is known: nothing is known after a 0, which falls to 2^32 - 1
+-- one less in 32 bits where that is known: nothing is known after a 0, which falls to 2^32 - 1
 abbrev pub counted_down : Option ℕ → Option ℕ
 counted_down None = None
-counted_down (Some n) = if n == 0 then None else Some (n - 1)
+counted_down (Some n) = if n == 0 then None else Some ((n + (2 ^ 32 - 1)) % 2 ^ 32)
 
 -- whether a number is 0, where it is known
 abbrev pub is_zero : Option ℕ → Option Bool

@@ -30,6 +30,8 @@ use Rattle.span_step.specs.declared.levels.Write.{Write}
 use Rattle.span_step.specs.declared.stepped.Next.{Next}
 use Rattle.span_step.specs.declared.stepped.Stepped.{Stepped}
 use Rattle.span_step.specs.Contexts.{Context}
+use Rattle.span_step.specs.declared.narrowing.Narrowing.{Narrowing}
+use Rattle.span_step.specs.Narrowing.{narrowing_after, with_held, is_unmet_at_an_end}
 use Rattle.span_step.specs.Outcomes.{ContextOutcome, written_to, outcomes, is_wild, may_stall}
 use Rattle.span_step.specs.Courses.{Rules, courses, no_causes, joined, start, followed}
 
@@ -159,9 +161,9 @@ abbrev pub address_after : Option ℕ → ℕ → ℕ
 address_after (Some address) following = address
 address_after None following = following
 
--- the next context with its ages, after a course
-abbrev pub next_of : Visit → ContextOutcome → Watch → Next
-next_of v o w = record {
+-- where a course ends, with its ages
+abbrev pub end_after : Visit → ContextOutcome → Watch → Next
+end_after v o w = record {
   context = record { address = address_after o.jump v.following; x = o.x; y = o.y; from = w.from; to = w.to };
   ages = w.ages;
   passes = w.passes;
@@ -170,7 +172,8 @@ next_of v o w = record {
 -- what is found with the end of one more course
 unfoldable pub with_end : Visit → ContextOutcome → Stepped → Watch → Stepped
 with_end v o found w = record {
-  nexts = found.nexts ++ next_of v o w ∷ [];
+  ends = found.ends ++ end_after v o w ∷ [];
+  narrowing = found.narrowing;
   causes = joined found.causes w.causes;
   from_edge = found.from_edge || w.from_edge;
   closes = found.closes || w.closes;
@@ -182,15 +185,20 @@ end_of v ticks = followed v.rules ticks (start v.left_out v.context v.ages)
 
 -- what is found with one more outcome, by each of its courses
 unfoldable pub with_outcome : Visit → Stepped → ContextOutcome → Stepped
-with_outcome v found o = fold (λ t ticks. with_end v o t (end_of v ticks)) found (courses v.stalls v.side o v.delay)
+with_outcome v found o =
+    fold (λ t ticks. with_end v (with_held found.narrowing o) t (end_of v ticks)) found (courses v.stalls v.side o v.delay)
 
--- nothing is found yet
-abbrev pub nothing_found : Stepped
-nothing_found = record { nexts = []; causes = no_causes; from_edge = false; closes = false }
+-- nothing is found yet of a row after which this narrows
+abbrev pub nothing_found : Narrowing → Stepped
+nothing_found w = record { ends = []; narrowing = w; causes = no_causes; from_edge = false; closes = false }
 
 -- nothing is found but U4
-abbrev pub wild_step : Stepped
-wild_step = record { nexts = []; causes = record no_causes { u4 = true }; from_edge = false; closes = false }
+abbrev pub wild_step : Narrowing → Stepped
+wild_step w = record (nothing_found w) { causes = record no_causes { u4 = true } }
+
+-- what is found at last: U6 where the span's assumptions let nothing come next after some end
+abbrev pub with_unmet : Stepped → Stepped
+with_unmet found = record found { causes = record found.causes { u6 = is_unmet_at_an_end found } }
 
 -- No address is known after a row: its instruction sets PC, or the next instruction, from data; or the machine begins with a pending
 -- word, which isn't followed.
@@ -200,16 +208,17 @@ is_lost s op = is_wild op.act || is_some s.pending
 -- the step of a row whose instruction this is: U4 alone where no address is known after it, else what its outcomes give
 unfoldable pub step_by : MachineSetup → Span → Op → Context → Ages → Stepped
 step_by s sp op k ages =
+    let w = narrowing_after sp k.address in
     if is_lost s op
-    then wild_step
-    else fold (with_outcome (visit_of s sp op k ages)) nothing_found (outcomes op.act s sp k)
+    then wild_step w
+    else with_unmet (fold (with_outcome (visit_of s sp op k ages)) (nothing_found w) (outcomes op.act s sp k))
 
 -- the step of a row of this machine, by the word at its address
 abbrev pub machine_steps : Option MachineSetup → List ℕ → Span → Context → Ages → Stepped
-machine_steps None memory sp k ages = nothing_found
+machine_steps None memory sp k ages = nothing_found (narrowing_after sp k.address)
 machine_steps (Some s) memory sp k ages = step_by s sp (reading_of (slice_index memory k.address) s.side_rule) k ages
 
--- The step of a row of the span's machine: the next contexts with their ages, the causes for which the row is bad, whether a
+-- The step of a row of the span's machine: where its courses end, which `nexts_of` narrows to what can come next, the causes for which the row is bad, whether a
 -- from-event comes, and whether a to-event comes while one is open. There is none where the machine isn't configured.
 unfoldable pub context_steps : Setup → Span → Context → Ages → Stepped
 context_steps u sp k ages = machine_steps (slice_index_or u.machines sp.machine None) u.memory sp k ages

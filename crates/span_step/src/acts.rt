@@ -1,7 +1,6 @@
 //! All that an instruction can do to a context, apart from side-set.
-ghost use Rattle.std.specs.Prelude.{◌≡◌, ◌∷◌, [], ◌<◌, IsTrue};
+ghost use Rattle.std.specs.Prelude.{◌≡◌, ◌∷◌, [], ◌<◌};
 ghost use Rattle.pio_encode.specs.Ranges.{IsInRange};
-ghost use Rattle.span_step.specs.Contexts.{is_small};
 ghost use Rattle.span_step.specs.Outcomes as spec;
 
 use crate::context::Context;
@@ -95,7 +94,7 @@ fn taken(condition: Condition, context: &Context) -> Option<bool>
 }
 
 /// Whether a number is 0, where it is known.
-fn is_zero(known: Option<u8>) -> Option<bool>
+fn is_zero(known: Option<u16>) -> Option<bool>
     ensures { result ≡ spec.is_zero known }
 {
     match known {
@@ -105,7 +104,7 @@ fn is_zero(known: Option<u8>) -> Option<bool>
 }
 
 /// Whether a number isn't 0, where it is known.
-fn is_nonzero(known: Option<u8>) -> Option<bool>
+fn is_nonzero(known: Option<u16>) -> Option<bool>
     ensures { result ≡ spec.is_nonzero known }
 {
     match known {
@@ -115,7 +114,7 @@ fn is_nonzero(known: Option<u8>) -> Option<bool>
 }
 
 /// Whether two numbers differ, where both are known.
-fn differ(x: Option<u8>, y: Option<u8>) -> Option<bool>
+fn differ(x: Option<u16>, y: Option<u16>) -> Option<bool>
     ensures { result ≡ spec.differ x y }
 {
     match (x, y) {
@@ -138,9 +137,8 @@ fn after_count(condition: Condition, context: &Context) -> ContextOutcome
 }
 
 /// One less; nothing is known after a 0, which falls to 2^32 - 1.
-fn counted_down(known: Option<u8>) -> Option<u8>
-    ensures value { result ≡ spec.counted_down known }
-    ensures small { IsTrue (is_small known) → IsTrue (is_small result) }
+fn counted_down(known: Option<u16>) -> Option<u16>
+    ensures { result ≡ spec.counted_down known }
 {
     match known {
         Some(number) if number != 0 => Some(number - 1),
@@ -173,9 +171,8 @@ fn out_outcomes(
 }
 
 /// What is known of the word that a MOV copies: of X, Y or NULL, as long as no operation changes it.
-fn copied(operation: MovOperation, source: MovSource, context: &Context) -> Option<u8>
-    ensures value { result ≡ spec.copied operation source context.now }
-    ensures small { IsTrue (is_small result) }
+fn copied(operation: MovOperation, source: MovSource, context: &Context) -> Option<u16>
+    ensures { result ≡ spec.copied operation source context.now }
 {
     match (operation, source) {
         (MovOperation::Plain, MovSource::X) => context.x,
@@ -188,12 +185,11 @@ fn copied(operation: MovOperation, source: MovSource, context: &Context) -> Opti
 /// MOV of a word of which this is known.
 fn mov_outcomes(
     destination: MovDestination,
-    word: Option<u8>,
+    word: Option<u16>,
     machine: &MachineSetup,
     span: &Span,
     context: &Context,
 ) -> Outcomes
-    requires { IsTrue (is_small word) }
     ensures { result.items ≡ spec.mov_outcomes destination word machine.now span.now context.now }
 {
     let mut outcome = ContextOutcome::nothing_done(context);
@@ -225,8 +221,8 @@ fn set_outcomes(
         SetDestination::Pindirs => {
             return set_pins(PinSignal::Direction, value, machine, span, context);
         }
-        SetDestination::X => outcome.x = Some(value),
-        SetDestination::Y => outcome.y = Some(value),
+        SetDestination::X => outcome.x = Some(u16::from(value)),
+        SetDestination::Y => outcome.y = Some(u16::from(value)),
     }
     one(outcome)
 }

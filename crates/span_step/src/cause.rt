@@ -15,6 +15,8 @@ pub enum Cause {
     U3,
     /// No address is known after the instruction.
     U4,
+    /// What is known of X or Y after the instruction is outside the range that the span assumes.
+    U6,
 }
 
 /// Which causes there are.
@@ -24,6 +26,7 @@ pub struct Causes {
     pub u2: bool,
     pub u3: bool,
     pub u4: bool,
+    pub u6: bool,
 }
 
 impl Causes {
@@ -36,10 +39,11 @@ impl Causes {
             u2: false,
             u3: false,
             u4: false,
+            u6: false,
         }
     }
 
-    /// The first in the order U1, U2, U3, U4.
+    /// The first in the order U1, U2, U3, U4, U6.
     pub fn first(self) -> Option<Cause>
         ensures { result ≡ laws.first_cause self }
     {
@@ -51,6 +55,8 @@ impl Causes {
             Some(Cause::U3)
         } else if self.u4 {
             Some(Cause::U4)
+        } else if self.u6 {
+            Some(Cause::U6)
         } else {
             None
         }
@@ -65,6 +71,7 @@ impl Causes {
             u2: self.u2 || other.u2,
             u3: self.u3 || other.u3,
             u4: self.u4 || other.u4,
+            u6: self.u6 || other.u6,
         }
     }
 }

@@ -1,15 +1,15 @@
 //! What the checker knows of a machine between two instructions.
 use std::marker::Model;
 
-/// What is known before an instruction. The type keeps the address, X and Y below 32.
+/// What is known before an instruction. The type keeps the address below 32.
 #[derive(Clone, Copy, Default)]
 pub struct Context {
     /// Where the instruction lies.
     pub address: u8,
     /// X, or `None` where it may be anything.
-    pub x: Option<u8>,
+    pub x: Option<u16>,
     /// Y, or `None` where it may be anything.
-    pub y: Option<u8>,
+    pub y: Option<u16>,
     /// Whether the watched signal of the span's from-pin is high: its level, or its direction where that is out.
     pub from: bool,
     /// Whether that of the to-pin is.
@@ -17,7 +17,7 @@ pub struct Context {
 }
 
 impl Model for Context {
-    ghost use Rattle.std.specs.Prelude.{IsTrue};
+    ghost use Rattle.std.specs.Prelude.{◌<◌};
     ghost use Rattle.span_step.specs.Contexts as spec;
 
     ghost Value = { spec.Context };
@@ -30,7 +30,7 @@ impl Model for Context {
       to = k.to;
     } };
 
-    ghost invariant = { λ k. IsTrue (spec.is_placed k.address k.x k.y) };
+    ghost invariant = { λ k. k.address < 32 };
 
     ghost inverse = { λ k. record {
       address = k.address;

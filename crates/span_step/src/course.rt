@@ -201,6 +201,7 @@ fn tick_causes(rules: &Rules, late: bool, closes: bool, before: Ages, aged: Ages
         u2: closes && aged.is_below(rules.min),
         u3: late && rules.bounded && !rules.named && before.is_open(),
         u4: false,
+        u6: false,
     }
 }
 

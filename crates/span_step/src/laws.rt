@@ -1,9 +1,11 @@
 //! Laws of a step, each on a function that does nothing.
-ghost use Rattle.std.specs.Prelude.{◌≡◌, ℕ, ◌+◌, ◌&&◌, if◌then◌else◌, min, map, true, false, Some, IsSome, None, slice_index_or};
+ghost use Rattle.std.specs.Prelude.{◌≡◌, ℕ, ◌+◌, ◌&&◌, if◌then◌else◌, min, map, nat_lt, true, false, Some, IsSome, None, slice_index_or};
 ghost use Rattle.pin_matrix.specs.declared.setup.Setup as setup;
 ghost use Rattle.pin_matrix.specs.declared.span.Span as span;
 ghost use Rattle.span_step.specs.Contexts as contexts;
-ghost use Rattle.span_step.specs.Contexts.{IsInside, is_open, is_placed};
+ghost use Rattle.pin_matrix.specs.Followed.{followed};
+ghost use Rattle.span_step.specs.Contexts.{IsInside, is_open};
+ghost use Rattle.span_step.specs.Narrowing.{nexts_of};
 ghost use Rattle.span_step.specs.Courses as courses;
 ghost use Rattle.span_step.specs.Courses.{opens, watched};
 ghost use Rattle.span_step.specs.declared.ages.Ages as ages;
@@ -24,24 +26,24 @@ pub fn a_step_is_monotone()
 /// they were.
 pub fn next_contexts_do_not_depend_on_ages()
     ensures contexts { (u : setup.Setup) (sp : span.Span) (k : contexts.Context) (a b : ages.Ages)
-        → map aim_of (context_steps u sp k a).nexts
-        ≡ map aim_of (context_steps u sp k b).nexts }
+        → map aim_of (nexts_of (context_steps u sp k a))
+        ≡ map aim_of (nexts_of (context_steps u sp k b)) }
     ensures from_edge { (u : setup.Setup) (sp : span.Span) (k : contexts.Context) (a b : ages.Ages)
         → (context_steps u sp k a).from_edge ≡ (context_steps u sp k b).from_edge }
     ensures after_edge { (u : setup.Setup) (sp : span.Span) (k : contexts.Context) (a b : ages.Ages)
-        → AreAlike (GoesLike SameAfterEdge) (context_steps u sp k a).nexts (context_steps u sp k b).nexts }
+        → AreAlike (GoesLike SameAfterEdge) (nexts_of (context_steps u sp k a)) (nexts_of (context_steps u sp k b)) }
     ensures open_alike { (u : setup.Setup) (sp : span.Span) (k : contexts.Context) (a b : ages.Ages)
         → is_open a ≡ is_open b
-        → AreAlike (GoesLike OpenAlike) (context_steps u sp k a).nexts (context_steps u sp k b).nexts }
+        → AreAlike (GoesLike OpenAlike) (nexts_of (context_steps u sp k a)) (nexts_of (context_steps u sp k b)) }
 {}
 
 /// Ages grow by at least one tick along a course that passes, up to one above the span's greatest bound, and no further.
 /// Where it has none they grow up to its least one, and to 1 at least.
 pub fn ages_grow_up_to_the_cap()
     ensures grow { (u : setup.Setup) (sp : span.Span) (k : contexts.Context) (a : ages.Ages) (n : ℕ)
-        → ReachesAge n a → AllReach (min n (most_of u sp) + 1) (context_steps u sp k a).nexts }
+        → ReachesAge n a → AllReach (min n (most_of u sp) + 1) (nexts_of (context_steps u sp k a)) }
     ensures cap { (u : setup.Setup) (sp : span.Span) (k : contexts.Context) (a : ages.Ages)
-        → AllUpTo (most_of u sp + 1) (context_steps u sp k a).nexts }
+        → AllUpTo (most_of u sp + 1) (nexts_of (context_steps u sp k a)) }
 {}
 
 /// Ages at the greatest bound of a span that has one, or above, are bad at each row but those left out, and a row is bad by
@@ -62,7 +64,7 @@ pub fn rows_left_out_lose_ages()
     ensures ages { (u : setup.Setup) (sp : span.Span) (k : contexts.Context) (a : ages.Ages)
         → is_left_out sp k.address ≡ true → context_steps u sp k a ≡ context_steps u sp k Empty }
     ensures passes { (u : setup.Setup) (sp : span.Span) (k : contexts.Context) (a : ages.Ages)
-        → is_left_out sp k.address ≡ true → NonePass (context_steps u sp k a).nexts }
+        → is_left_out sp k.address ≡ true → NonePass (nexts_of (context_steps u sp k a)) }
 {}
 
 /// An excused tick, a late one where the row excuses, leaves no age but that of a from-event of its own. It adds no cause and
@@ -80,8 +82,8 @@ pub fn an_excused_tick_leaves_a_fresh_age_at_most()
         → (t.late && r.excuses) ≡ true → (watched r w t).passes ≡ false }
 {}
 
-/// After a context whose numbers are in range, each next context's are.
+/// After a context whose address is in range, each next context's is, and its X and Y are followed so far.
 pub fn next_contexts_are_in_range()
     ensures { (u : setup.Setup) (sp : span.Span) (k : contexts.Context) (a : ages.Ages)
-        → is_placed k.address k.x k.y ≡ true → AllPlaced (context_steps u sp k a).nexts }
+        → nat_lt k.address 32 ≡ true → AllPlaced (followed sp) (nexts_of (context_steps u sp k a)) }
 {}

@@ -9,6 +9,8 @@ mod context;
 mod course;
 mod laws;
 mod levels;
+mod narrowing;
+mod nexts;
 mod outcome;
 mod rules;
 mod stepped;
@@ -23,5 +25,7 @@ pub use laws::{
     next_contexts_are_in_range, next_contexts_do_not_depend_on_ages, overdue_ages_are_bad,
     rows_left_out_lose_ages,
 };
-pub use stepped::{Next, Nexts, Stepped};
-pub use stepping::{age_cap, step};
+pub use narrowing::{Narrowing, followed_to};
+pub use nexts::Nexts;
+pub use stepped::{Ends, Next, Stepped};
+pub use stepping::{age_cap, find_step, step};

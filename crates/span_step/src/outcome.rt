@@ -5,15 +5,15 @@ ghost use Rattle.span_step.specs.Outcomes as spec;
 use crate::context::Context;
 use std::marker::Model;
 
-/// What an instruction does to a context, apart from side-set. The type keeps the address, X and Y below 32.
+/// What an instruction does to a context, apart from side-set. The type keeps the address below 32.
 #[derive(Clone, Copy, Default)]
 pub(crate) struct ContextOutcome {
     /// The address that it goes to, if it isn't the next one.
     pub(crate) jump: Option<u8>,
     /// X after it, where it is known.
-    pub(crate) x: Option<u8>,
+    pub(crate) x: Option<u16>,
     /// Y after it, where it is known.
-    pub(crate) y: Option<u8>,
+    pub(crate) y: Option<u16>,
     /// What it writes to the from-pin's watched signal, if anything.
     pub(crate) from: Option<bool>,
     /// What it writes to the to-pin's.
@@ -21,7 +21,7 @@ pub(crate) struct ContextOutcome {
 }
 
 impl Model for ContextOutcome {
-    ghost use Rattle.std.specs.Prelude.{IsTrue, ◌&&◌};
+    ghost use Rattle.std.specs.Prelude.{IsTrue};
     ghost use Rattle.span_step.specs.Contexts.{is_small};
     ghost use Rattle.span_step.specs.Outcomes as spec;
 
@@ -35,7 +35,7 @@ impl Model for ContextOutcome {
       to = o.to;
     } };
 
-    ghost invariant = { λ o. IsTrue (is_small o.jump && (is_small o.x && is_small o.y)) };
+    ghost invariant = { λ o. IsTrue (is_small 31 o.jump) };
 
     ghost inverse = { λ o. record {
       jump = o.jump;

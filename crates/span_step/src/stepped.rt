@@ -1,9 +1,12 @@
 //! What a step finds.
 ghost use Rattle.std.specs.Prelude.{◌≡◌, ◌<◌, ◌≤◌, ◌++◌, ◌∷◌, [], length};
+ghost use Rattle.span_step.specs.Narrowing as spec;
 
 use crate::ages::Ages;
 use crate::cause::Causes;
 use crate::context::Context;
+use crate::narrowing::Narrowing;
+use crate::nexts::Nexts;
 use arrayvec::ArrayVec;
 use std::marker::Model;
 
@@ -16,13 +19,13 @@ pub struct Next {
     pub passes: bool,
 }
 
-/// The contexts that can come next with their ages, at most eight, one for each course of each outcome.
+/// Where the courses of a row end, at most eight, one for each course of each outcome, with what the instruction leaves in X and Y.
 #[derive(Drop)]
-pub struct Nexts {
+pub struct Ends {
     items: ArrayVec<Next, 8>,
 }
 
-impl Model for Nexts {
+impl Model for Ends {
     ghost use Rattle.std.specs.Prelude.{List};
     ghost use Rattle.span_step.specs.declared.stepped.Next.{Next};
 
@@ -31,12 +34,12 @@ impl Model for Nexts {
     ghost view = { λ n. n.items.items };
 }
 
-impl Nexts {
+impl Ends {
     /// None yet.
-    pub(crate) fn new() -> Nexts
+    pub(crate) fn new() -> Ends
         ensures { result ≡ [] }
     {
-        Nexts {
+        Ends {
             items: ArrayVec::new(),
         }
     }
@@ -58,13 +61,37 @@ impl Nexts {
     }
 }
 
-/// What a step finds: what can come next, and why the row is bad.
+/// What a step finds: where its courses end, what can come next there, and why the row is bad.
 #[derive(Drop)]
 pub struct Stepped {
-    pub nexts: Nexts,
+    pub ends: Ends,
+    pub narrowing: Narrowing,
     pub causes: Causes,
     /// A from-event comes.
     pub from_edge: bool,
     /// A to-event comes while a from-event of an earlier tick is open.
     pub closes: bool,
+}
+
+impl Stepped {
+    /// Nothing yet.
+    pub fn none() -> Stepped
+        ensures { result.ends ≡ [] }
+    {
+        Stepped {
+            ends: Ends::new(),
+            narrowing: Narrowing::wide(),
+            causes: Causes::none(),
+            from_edge: false,
+            closes: false,
+        }
+    }
+
+    /// What can come next, in order: by the ends, and of one end by X and then by Y.
+    #[tactic(auto, unfolding(crate::specs::Narrowing::nexts_of))]
+    pub fn nexts(&self) -> Nexts<'_>
+        ensures { result ≡ spec.nexts_of self.now }
+    {
+        Nexts::of(self.ends.as_slice(), self.narrowing)
+    }
 }

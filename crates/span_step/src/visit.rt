@@ -74,19 +74,20 @@ impl Visit {
     /// Adds what one more outcome gives, by each of its courses.
     #[tactic(auto, unfolding(crate::specs::Steps::with_outcome, crate::specs::Courses::courses))]
     pub(crate) fn add_outcome(&self, outcome: &ContextOutcome, found: &mut Stepped)
-        requires { length found.old.nexts ≤ 6 }
+        requires { length found.old.ends ≤ 6 }
         ensures value { found.new ≡ spec.with_outcome self.now found.old outcome.now }
-        ensures room { length found.new.nexts ≤ length found.old.nexts + 2 }
+        ensures room { length found.new.ends ≤ length found.old.ends + 2 }
     {
         let start = Watch::start(self.left_out, &self.context, self.ages);
+        let known = found.narrowing.held(outcome);
         self.add_end(
-            outcome,
+            &known,
             &start.prompt(&self.rules, self.side, outcome, self.delay),
             found,
         );
         if self.stalls {
             self.add_end(
-                outcome,
+                &known,
                 &start.late(&self.rules, self.side, outcome, self.delay),
                 found,
             );
@@ -96,11 +97,11 @@ impl Visit {
     /// Adds the end of one course.
     #[tactic(auto, unfolding(crate::specs::Steps::with_end))]
     fn add_end(&self, outcome: &ContextOutcome, end: &Watch, found: &mut Stepped)
-        requires { length found.old.nexts < 8 }
+        requires { length found.old.ends < 8 }
         ensures value { found.new ≡ spec.with_end self.now outcome.now found.old end.now }
-        ensures room { length found.new.nexts ≡ length found.old.nexts + 1 }
+        ensures room { length found.new.ends ≡ length found.old.ends + 1 }
     {
-        found.nexts.push(Next {
+        found.ends.push(Next {
             context: Context {
                 address: outcome.jump.unwrap_or(self.following),
                 x: outcome.x,

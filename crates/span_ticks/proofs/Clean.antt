@@ -10,25 +10,25 @@ use Rattle.span_ticks.specs.UnderWay.{ValueOf, Watch}
 abbrev pub Tick : Type 0
 Tick = ValueOf (λ (k : Context). delay_tick)
 
--- no cause is there
+-- no cause is there that a tick adds
 pub record IsClean (c : Causes) : Type 0 where
   pub u1 : c.u1 ≡ false
   pub u2 : c.u2 ≡ false
   pub u3 : c.u3 ≡ false
   pub u4 : c.u4 ≡ false
 
-clean_by : (a b c d : Bool) → first_cause (record { u1 = a; u2 = b; u3 = c; u4 = d }) ≡ None → IsClean (record { u1 = a; u2 = b; u3 = c; u4 = d })
-clean_by true b c d h = cc
-clean_by false true c d h = cc
-clean_by false false true d h = cc
-clean_by false false false true h = cc
-clean_by false false false false h = record { u1 = refl; u2 = refl; u3 = refl; u4 = refl }
+clean_by : (a b c d e : Bool) → first_cause (record { u1 = a; u2 = b; u3 = c; u4 = d; u6 = e }) ≡ None → IsClean (record { u1 = a; u2 = b; u3 = c; u4 = d; u6 = e })
+clean_by true b c d e h = cc
+clean_by false true c d e h = cc
+clean_by false false true d e h = cc
+clean_by false false false true e h = cc
+clean_by false false false false e h = record { u1 = refl; u2 = refl; u3 = refl; u4 = refl }
 
 pub clean_of : (c : Causes) → first_cause c ≡ None → IsClean c
-clean_of c h = let p = clean_by c.u1 c.u2 c.u3 c.u4 h in record { u1 = p.u1; u2 = p.u2; u3 = p.u3; u4 = p.u4 }
+clean_of c h = let p = clean_by c.u1 c.u2 c.u3 c.u4 c.u6 h in record { u1 = p.u1; u2 = p.u2; u3 = p.u3; u4 = p.u4 }
 
-pub none_of : (c : Causes) → IsClean c → first_cause c ≡ None
-none_of c h = rw (h.u1, h.u2, h.u3, h.u4) refl
+pub none_of : (c : Causes) → IsClean c → c.u6 ≡ false → first_cause c ≡ None
+none_of c h met = rw (h.u1, h.u2, h.u3, h.u4, met) refl
 
 pub none_left : (a b : Bool) → (a || b) ≡ false → a ≡ false
 none_left true b h = cc
@@ -60,6 +60,18 @@ clean_watched r w t h = by (t.late && r.excuses) _ h where
 pub clean_tick : (z : Bool) (a b : Causes) → z ≡ false → IsClean (if z then a else joined a b) → IsClean b
 clean_tick true a b e h = cc
 clean_tick false a b e h = clean_right a b h
+
+-- no tick adds U6
+pub met_watched : (r : Rules) (w : Watch) (t : Tick) → w.causes.u6 ≡ false → (watched r w t).causes.u6 ≡ false
+unfolding watched
+met_watched r w t h = by (t.late && r.excuses) _ refl where
+  by : (z : Bool) (c : Causes) → c.u6 ≡ false → (if z then w.causes else joined w.causes c).u6 ≡ false
+  by true c e = h
+  by false c e = rw (h, e) refl
+
+pub met_followed : (r : Rules) (ts : List Tick) (w : Watch) → w.causes.u6 ≡ false → (followed r ts w).causes.u6 ≡ false
+met_followed r [] w h = h
+met_followed r (t ∷ ts) w h = met_followed r ts (watched r w t) (met_watched r w t h)
 
 pub clean_followed : (r : Rules) (ts : List Tick) (w : Watch) → IsClean (followed r ts w).causes → IsClean w.causes
 clean_followed r [] w h = h

@@ -1,5 +1,5 @@
 -- What an instruction does when it finishes is one of the outcomes that the checker knows of.
-use Rattle.std.proofs.Common.{◌≡◌, ℕ, ◌-◌, ◌==◌, nat_lt, Bool, true, false, not, cond, if◌then◌else◌, Option, Some, None, List, [], ◌∷◌, ◌++◌, map, flat_map, refl, sym, ap, subst, ◌∙◌, rules, arith}
+use Rattle.std.proofs.Common.{◌≡◌, ℕ, ◌==◌, Bool, true, false, not, cond, if◌then◌else◌, Option, Some, None, List, [], ◌∷◌, ◌++◌, map, flat_map, refl, sym, ap, subst, ◌∙◌, rules, arith}
 use Rattle.std.proofs.lemmas.Bool.{and_parts}
 use Rattle.std.proofs.lemmas.Bool.Decides.{nat_tests}
 use Rattle.std.proofs.lemmas.Nat.Bits.{bit_at-zero}
@@ -29,7 +29,7 @@ use Rattle.sm_registers.specs.declared.registers.Registers.{Registers}
 use Rattle.sm_registers.specs.View.{View}
 use Rattle.sm_registers.specs.Queues.{Queues}
 use Rattle.sm_registers.specs.Effects.{Effect, fallen, counted_down, jumps, jmp_effect, wait_effect, in_effect, autopushed, out_to, out_effect, push_effect, pulled, pull_effect, mov_word, operated, mov_to, mov_effect, irq_effect, set_effect, effect_of}
-use Rattle.span_step.specs.Contexts.{Context, is_small}
+use Rattle.span_step.specs.Contexts.{Context}
 use Rattle.span_step.specs.Outcomes.{ContextOutcome, nothing_done, level_at, signal_at, is_held, either_level, has_one_signal, has_one_pin, unknown_levels, unknown_pins, is_zero, is_nonzero, differ, taken, after_count, ways, out_outcomes, copied, mov_outcomes, set_outcomes, outcomes, is_wild, may_stall}
 use Rattle.span_step.specs.Outcomes as outcome
 use Rattle.span_ticks.specs.UnderWay.{Covers, flow_of}
@@ -146,27 +146,24 @@ taken_agrees condition.XNotY k s v r x y = differ_agrees k.x k.y r.x r.y x y
 taken_agrees condition.Pin k s v r x y = tt
 taken_agrees condition.OsrNotEmpty k s v r x y = tt
 
-falls : (n k : ℕ) → n ≡ k → (k == 0) ≡ false → nat_lt k 32 ≡ true → fallen n ≡ k - 1
-falls n k e h small = grind (arith, nat_tests)
-
-count_covers : (known : Option ℕ) (n : ℕ) → is_small known ≡ true → Covers known n → Covers (outcome.counted_down known) (fallen n)
-count_covers None n small h = tt
-count_covers (Some k) n small h = by (k == 0) refl where
-  by : (z : Bool) → (k == 0) ≡ z → Covers (cond z None (Some (k - 1))) (fallen n)
-  by true e = tt
-  by false e = falls n k h e small
+count_covers : (known : Option ℕ) (n : ℕ) → Covers known n → Covers (outcome.counted_down known) (fallen n)
+count_covers None n h = tt
+count_covers (Some k) n h = by (k == 0) where
+  by : (z : Bool) → Covers (cond z None (Some (fallen k))) (fallen n)
+  by true = tt
+  by false = ap fallen h
 
 -- a JMP that goes on
-explains_count : (c : Condition) (sp : Span) (k : Context) (r : Registers) → is_small k.x ≡ true → is_small k.y ≡ true → Covers k.x r.x → Covers k.y r.y
+explains_count : (c : Condition) (sp : Span) (k : Context) (r : Registers) → Covers k.x r.x → Covers k.y r.y
     → Covers (after_count c k).x (counted_down c r).x × Covers (after_count c k).y (counted_down c r).y
-explains_count condition.Always sp k r low lower x y = (x, y)
-explains_count condition.XZero sp k r low lower x y = (x, y)
-explains_count condition.XDecrement sp k r low lower x y = (count_covers k.x r.x low x, y)
-explains_count condition.YZero sp k r low lower x y = (x, y)
-explains_count condition.YDecrement sp k r low lower x y = (x, count_covers k.y r.y lower y)
-explains_count condition.XNotY sp k r low lower x y = (x, y)
-explains_count condition.Pin sp k r low lower x y = (x, y)
-explains_count condition.OsrNotEmpty sp k r low lower x y = (x, y)
+explains_count condition.Always sp k r x y = (x, y)
+explains_count condition.XZero sp k r x y = (x, y)
+explains_count condition.XDecrement sp k r x y = (count_covers k.x r.x x, y)
+explains_count condition.YZero sp k r x y = (x, y)
+explains_count condition.YDecrement sp k r x y = (x, count_covers k.y r.y y)
+explains_count condition.XNotY sp k r x y = (x, y)
+explains_count condition.Pin sp k r x y = (x, y)
+explains_count condition.OsrNotEmpty sp k r x y = (x, y)
 
 no_write : (c : Condition) (k : Context) → ((after_count c k).from ≡ None) × ((after_count c k).to ≡ None) × ((after_count c k).jump ≡ None)
 no_write condition.Always k = (refl, refl, refl)
@@ -182,10 +179,10 @@ no_write condition.OsrNotEmpty k = (refl, refl, refl)
 abbrev jumped : Condition → ℕ → Bool → MachineSetup → View → Registers → Effect
 jumped c address taken s v r = record (jmp_effect c address s v r) { registers = counted_down c r; jump = if taken then Some address else None }
 
-module _ (P : ContextOutcome → Type 0) (c : Condition) (address : ℕ) (s : MachineSetup) (sp : Span) (k : Context) (v : View) (r : Registers) (low : is_small k.x ≡ true) (lower : is_small k.y ≡ true) (x : Covers k.x r.x) (y : Covers k.y r.y) where
+module _ (P : ContextOutcome → Type 0) (c : Condition) (address : ℕ) (s : MachineSetup) (sp : Span) (k : Context) (v : View) (r : Registers) (x : Covers k.x r.x) (y : Covers k.y r.y) where
   goes : P (record (after_count c k) { jump = Some address }) → Picked P sp (jumped c address true s v r)
   unfolding jmp_effect
-  goes h = let p = explains_count c sp k r low lower x y in let n = no_write c k in record {
+  goes h = let p = explains_count c sp k r x y in let n = no_write c k in record {
     outcome = record (after_count c k) { jump = Some address };
     holds = h;
     explains = record {
@@ -200,7 +197,7 @@ module _ (P : ContextOutcome → Type 0) (c : Condition) (address : ℕ) (s : Ma
 
   stays : P (after_count c k) → Picked P sp (jumped c address false s v r)
   unfolding jmp_effect
-  stays h = let p = explains_count c sp k r low lower x y in let n = no_write c k in record {
+  stays h = let p = explains_count c sp k r x y in let n = no_write c k in record {
     outcome = after_count c k;
     holds = h;
     explains = record {
@@ -229,11 +226,11 @@ pub all_map : {A B : Type 0} (P : B → Type 0) (f : A → B) (xs : List A) → 
 all_map P f [] h = tt
 all_map P f (x ∷ xs) h = (h.0, all_map P f xs h.1)
 
-all_front : {A : Type 0} (P : A → Type 0) (xs ys : List A) → AllByRecursion P (xs ++ ys) → AllByRecursion P xs × AllByRecursion P ys
+pub all_front : {A : Type 0} (P : A → Type 0) (xs ys : List A) → AllByRecursion P (xs ++ ys) → AllByRecursion P xs × AllByRecursion P ys
 all_front P [] ys h = (tt, h)
 all_front P (x ∷ xs) ys h = let p = all_front P xs ys h.1 in ((h.0, p.0), p.1)
 
-all_flat : {A B : Type 0} (P : B → Type 0) (f : A → List B) (xs : List A) → AllByRecursion P (flat_map f xs) → AllByRecursion (λ x. AllByRecursion P (f x)) xs
+pub all_flat : {A B : Type 0} (P : B → Type 0) (f : A → List B) (xs : List A) → AllByRecursion P (flat_map f xs) → AllByRecursion (λ x. AllByRecursion P (f x)) xs
 all_flat P f [] h = tt
 all_flat P f (x ∷ xs) h = let p = all_front P (f x) (flat_map f xs) h in (p.0, all_flat P f xs p.1)
 
@@ -399,16 +396,16 @@ out_done P false x y h k p = p
 
 -- any instruction that finishes
 pub explained : (P : ContextOutcome → Type 0) (a : Act) (s : MachineSetup) (sp : Span) (k : Context) (v : View) (q : Queues) (r : Registers)
-    → is_wild a ≡ false → is_small k.x ≡ true → is_small k.y ≡ true → Covers k.x r.x → Covers k.y r.y
+    → is_wild a ≡ false → Covers k.x r.x → Covers k.y r.y
     → (effect_of a s v q r).stalled ≡ false → AllByRecursion P (outcomes a s sp k) → Picked P sp (effect_of a s v q r)
 unfolding effect_of outcomes wait_effect in_effect out_effect push_effect pull_effect mov_effect irq_effect
-explained P (Jmp c address) s sp k v q r w low lower x y ends h = picked_jmp P c address s sp k v r low lower x y h
-explained P (Wait polarity source index) s sp k v q r w low lower x y ends h = picked_silent P sp k r _ h x y (search (rules, silent_if, silent_by))
-explained P (In source n) s sp k v q r w low lower x y ends h = picked_silent P sp k r _ h x y (silent_in s q r.begun r _ refl)
-explained P (Out d n) s sp k v q r w low lower x y ends h = out_done (Picked P sp) _ _ _ refl ends (picked_out P d _ n s sp k _ w x y h)
-explained P (Push if_full block) s sp k v q r w low lower x y ends h = picked_silent P sp k r _ h x y (search (rules, silent_if, silent_by) depth 20)
-explained P (Pull if_empty block) s sp k v q r w low lower x y ends h = picked_silent P sp k r _ h x y (search (rules, silent_if, silent_by, silent_pulled))
-explained P (Mov d o source) s sp k v q r w low lower x y ends h = picked_mov P d o source _ _ s sp k r w (copy_covers o source s v q k r x y) x y h
-explained P (Irq clear waits index) s sp k v q r w low lower x y ends h = picked_silent P sp k r _ h x y (search (rules, silent_if, silent_by) depth 20)
-explained P (Set d value) s sp k v q r w low lower x y ends h = picked_set P d value s sp k r x y h
-explained P Nothing s sp k v q r w low lower x y ends h = picked_silent P sp k r _ h x y (silent_by r _ refl refl refl refl refl)
+explained P (Jmp c address) s sp k v q r w x y ends h = picked_jmp P c address s sp k v r x y h
+explained P (Wait polarity source index) s sp k v q r w x y ends h = picked_silent P sp k r _ h x y (search (rules, silent_if, silent_by))
+explained P (In source n) s sp k v q r w x y ends h = picked_silent P sp k r _ h x y (silent_in s q r.begun r _ refl)
+explained P (Out d n) s sp k v q r w x y ends h = out_done (Picked P sp) _ _ _ refl ends (picked_out P d _ n s sp k _ w x y h)
+explained P (Push if_full block) s sp k v q r w x y ends h = picked_silent P sp k r _ h x y (search (rules, silent_if, silent_by) depth 20)
+explained P (Pull if_empty block) s sp k v q r w x y ends h = picked_silent P sp k r _ h x y (search (rules, silent_if, silent_by, silent_pulled))
+explained P (Mov d o source) s sp k v q r w x y ends h = picked_mov P d o source _ _ s sp k r w (copy_covers o source s v q k r x y) x y h
+explained P (Irq clear waits index) s sp k v q r w x y ends h = picked_silent P sp k r _ h x y (search (rules, silent_if, silent_by) depth 20)
+explained P (Set d value) s sp k v q r w x y ends h = picked_set P d value s sp k r x y h
+explained P Nothing s sp k v q r w x y ends h = picked_silent P sp k r _ h x y (silent_by r _ refl refl refl refl refl)

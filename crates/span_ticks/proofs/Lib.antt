@@ -1,7 +1,8 @@
 pub mod Clean
 pub mod Aging
-pub mod Ends
 pub mod Explained
+pub mod Narrowing
+pub mod Ends
 pub mod Stalls
 pub mod Opened
 pub mod Resting

@@ -6,8 +6,9 @@
 --   works            a machine works at the instruction in memory at PC
 --   closes, opens    an event comes in a tick
 --   IsAged           what comes of an open age in a tick
+--   kept_after       the last instruction left X and Y as the span assumes
 --   IsFollowed       what comes of a tick
-use Rattle.std.specs.Prelude.{◌≡◌, ℕ, ◌+◌, ◌≤◌, Bool, true, false, not, ◌&&◌, if◌then◌else◌, Option, Some, None, is_some, List, [], fold, unwrap_or}
+use Rattle.std.specs.Prelude.{◌≡◌, ℕ, ◌+◌, ◌≤◌, ◌⊎◌, Bool, true, false, not, ◌&&◌, if◌then◌else◌, Option, Some, None, is_some, List, [], fold, unwrap_or}
 use Rattle.pin_matrix.specs.declared.machine.MachineSetup.{MachineSetup}
 use Rattle.pin_matrix.specs.declared.setup.Setup.{Setup}
 use Rattle.pin_matrix.specs.declared.span.PinSignal.{PinSignal}
@@ -22,6 +23,7 @@ use Rattle.span_step.specs.declared.ages.Ages.TheVariants.{Empty, Between}
 use Rattle.span_step.specs.Contexts.{Context}
 use Rattle.span_step.specs.Outcomes.{level_at}
 use Rattle.span_step.specs.Courses.{is_edge}
+use Rattle.span_step.specs.Narrowing.{keeps}
 use Rattle.span_step.specs.Steps.{bounds_of, is_bounded, is_event, is_named}
 use Rattle.span_ticks.specs.UnderWay.{Watch, IsUnderWay, flow_of}
 
@@ -83,13 +85,20 @@ pub record IsAged (s : MachineSetup) (sp : Span) (address : ℕ) (kind : Kind) (
   pub stays : closes ≡ false → InAges (is_bounded sp) (older_by sp address kind n) after.ages
   pub named : is_bounded sp ≡ true → is_late kind ≡ true → is_named sp address ≡ true
 
--- What comes of a tick at an address, which leaves these registers and this intent: some watch after it, with which the
--- machine is under way again. What is watched of the pins is as the tick writes it; each open age is as `IsAged` says, unless the
--- machine was excused before the tick, and a from-event adds the age 0.
-pub record IsFollowed (u : Setup) (sp : Span) (rows : Context → Option Ages) (s : MachineSetup) (address : ℕ) (excused : Bool)
+-- the last instruction that finished left X and Y as the span assumes, after a tick at an address
+abbrev pub kept_after : Span → (kept : Bool) → (address : ℕ) → Registers × Intent → Bool
+kept_after sp kept address tick =
+    if finishes (works tick.1.kind None) tick.1.stalled then keeps sp address tick.0.x tick.0.y else kept
+
+-- What comes of a tick at an address, which leaves these registers and this intent: some watch after it, with which the machine
+-- is under way again, unless the last instruction left X or Y otherwise than the span assumes and its delay is over. What is
+-- watched of the pins is as the tick writes it; each open age is as `IsAged` says, unless the machine was excused before the
+-- tick, and a from-event adds the age 0.
+pub record IsFollowed (u : Setup) (sp : Span) (rows : Context → Option Ages) (s : MachineSetup) (kept : Bool) (address : ℕ) (excused : Bool)
     (before : Watch) (tick : Registers × Intent) : Type 0 where
   pub after : Watch
-  pub under_way : IsUnderWay u sp rows s (flow_of tick.0) after
+  pub under_way : (kept_after sp kept address tick ≡ true) ⊎ (tick.0.delay ≡ 0 → ⊥)
+      → IsUnderWay u sp rows s (kept_after sp kept address tick) (flow_of tick.0) after
   pub from : after.from ≡ level_after sp.from_pin (writes_to sp.from_signal tick.1) before.from
   pub to : after.to ≡ level_after sp.to_pin (writes_to sp.to_signal tick.1) before.to
   pub ages : excused ≡ false → (n : ℕ) → InAges (is_bounded sp) n before.ages

@@ -10,6 +10,7 @@
 use Rattle.std.specs.Prelude.{◌≡◌, ℕ, ◌⊎◌, ◌==◌, Bool, true, false, not, ◌&&◌, Option, Some, None, is_some, slice_index}
 use Rattle.pio_encode.specs.declared.op.Op.{Op}
 use Rattle.pio_encode.specs.Word.{reading_of}
+use Rattle.pin_matrix.specs.Followed as span
 use Rattle.pin_matrix.specs.declared.machine.MachineSetup.{MachineSetup}
 use Rattle.pin_matrix.specs.declared.setup.Setup.{Setup}
 use Rattle.pin_matrix.specs.declared.span.Span.{Span}
@@ -62,8 +63,8 @@ Covers (Some known) n = n ≡ known
 
 -- A context is in range and agrees with a machine: its address is PC, and what it knows of X and Y is so. In a delay PC, X and
 -- Y are already those of the instruction after it.
-pub record IsContextOf (k : Context) (f : Flow) : Type 0 where
-  pub placed : is_placed k.address k.x k.y ≡ true
+pub record IsContextOf (sp : Span) (k : Context) (f : Flow) : Type 0 where
+  pub placed : is_placed (span.followed sp) k.address k.x k.y ≡ true
   pub address : k.address ≡ f.pc
   pub x : Covers k.x f.x
   pub y : Covers k.y f.y
@@ -73,17 +74,22 @@ pub record IsContextOf (k : Context) (f : Flow) : Type 0 where
 abbrev pub rested : MachineSetup → Span → Flow → Watch → Watch
 rested s sp f w = followed (rules_of s sp f.pc) (delay_ticks f.delay) w
 
--- At an instruction whose word is in memory, or in the delay before it: after the rest of the delay there is no cause, and the
--- machine is at a context whose row has the ages.
-pub record IsResting (sp : Span) (rows : Context → Option Ages) (s : MachineSetup) (f : Flow) (w : Watch) : Type 0 where
-  pub pending : f.pending ≡ None
-  pub begun : f.begun ≡ false
+-- after the rest of the delay the machine is at a context whose row has the ages
+pub record IsAtRow (sp : Span) (rows : Context → Option Ages) (s : MachineSetup) (f : Flow) (w : Watch) : Type 0 where
   pub context : Context
-  pub agrees : IsContextOf context f
+  pub agrees : IsContextOf sp context f
   pub from : context.from ≡ (rested s sp f w).from
   pub to : context.to ≡ (rested s sp f w).to
-  pub good : first_cause (rested s sp f w).causes ≡ None
   pub row : IsInRow (rested s sp f w).ages (rows context)
+
+-- At an instruction whose word is in memory, or in the delay before it: after the rest of the delay there is no cause. Where the
+-- instruction before left X and Y as the span assumes the machine is then at a row; else there is still a delay.
+pub record IsResting (sp : Span) (rows : Context → Option Ages) (s : MachineSetup) (kept : Bool) (f : Flow) (w : Watch) : Type 0 where
+  pub pending : f.pending ≡ None
+  pub begun : f.begun ≡ false
+  pub good : first_cause (rested s sp f w).causes ≡ None
+  pub comes : kept ≡ true → IsAtRow sp rows s f w
+  pub delayed : kept ≡ false → f.delay ≡ 0 → ⊥
 
 -- the instruction at an address
 abbrev pub op_at : Setup → MachineSetup → ℕ → Op
@@ -102,11 +108,12 @@ pub record IsBegun (u : Setup) (sp : Span) (rows : Context → Option Ages) (s :
   pub delay : f.delay ≡ 0
   pub context : Context
   pub ages : Ages
-  pub agrees : IsContextOf context f
+  pub agrees : IsContextOf sp context f
   pub row : rows context ≡ Some ages
   pub stalls : may_stall (op_at u s context.address).act s ≡ true
   pub watch : w ≡ stalled_from u sp s context ages
 
--- what is known in the middle of a course is so of a machine: what remains of the course lies before it, and ends in a row
-abbrev pub IsUnderWay : Setup → Span → (Context → Option Ages) → MachineSetup → Flow → Watch → Type 0
-IsUnderWay u sp rows s f w = IsResting sp rows s f w ⊎ IsBegun u sp rows s f w
+-- What is known in the middle of a course is so of a machine: what remains of the course lies before it, and ends in a row, where
+-- the last instruction left X and Y as the span assumes.
+abbrev pub IsUnderWay : Setup → Span → (Context → Option Ages) → MachineSetup → (kept : Bool) → Flow → Watch → Type 0
+IsUnderWay u sp rows s kept f w = IsResting sp rows s kept f w ⊎ ((kept ≡ true) × IsBegun u sp rows s f w)

@@ -5,6 +5,8 @@
 --   is_right         a row isn't bad, and each of its nexts lies within a row
 use Rattle.std.specs.Prelude.{nat_le, Bool, true, false, ◌&&◌, Option, Some, None, List}
 use Rattle.std.specs.List.{list_all, list_any}
+use Rattle.pin_matrix.specs.Followed.{followed}
+use Rattle.pin_matrix.specs.declared.assume.Follow.{Follow}
 use Rattle.pin_matrix.specs.declared.setup.Setup.{Setup}
 use Rattle.pin_matrix.specs.declared.span.Span.{Span}
 use Rattle.span_step.specs.declared.ages.Ages.{Ages}
@@ -13,12 +15,12 @@ use Rattle.span_step.specs.declared.cause.Cause.{Cause}
 use Rattle.span_step.specs.declared.stepped.Next.{Next}
 use Rattle.span_step.specs.Contexts.{Context}
 use Rattle.span_step.specs.Laws.{first_cause}
+use Rattle.span_step.specs.Narrowing.{nexts_of}
 use Rattle.span_step.specs.Steps.{context_steps}
 use Rattle.span_bounds.specs.declared.entry.Entry.{Entry}
 use Rattle.span_bounds.specs.declared.entry.Entry.TheVariants.{Absent, Present}
 use Rattle.span_bounds.specs.declared.row.Row.{Row}
-use Rattle.span_bounds.specs.Numbers.{number_of}
-use Rattle.span_bounds.specs.Tables.{entry_at}
+use Rattle.span_bounds.specs.Tables.{entry_of}
 
 -- the step of a row has a from-edge
 abbrev pub has_from_edge : Setup → Span → Row → Bool
@@ -48,12 +50,12 @@ lies_at a Absent = false
 lies_at a (Present b) = is_inside a b
 
 -- a context has a row in which these ages lie
-abbrev pub lies_in : List Row → Context → Ages → Bool
-lies_in rows k a = lies_at a (entry_at rows (number_of k))
+abbrev pub lies_in : Follow → List Row → Context → Ages → Bool
+lies_in d rows k a = lies_at a (entry_of d rows k)
 
 -- each next lies within a row
-unfoldable pub all_lie_in : List Row → List Next → Bool
-all_lie_in rows nexts = list_all (λ n. lies_in rows n.context n.ages) nexts
+unfoldable pub all_lie_in : Follow → List Row → List Next → Bool
+all_lie_in d rows nexts = list_all (λ n. lies_in d rows n.context n.ages) nexts
 
 -- there is none
 abbrev pub is_none : Option Cause → Bool
@@ -64,4 +66,4 @@ is_none (Some cause) = false
 unfoldable pub is_right : Setup → Span → List Row → Row → Bool
 is_right u sp rows r =
     is_none (first_cause (context_steps u sp r.context r.ages).causes)
-    && all_lie_in rows (context_steps u sp r.context r.ages).nexts
+    && all_lie_in (followed sp) rows (nexts_of (context_steps u sp r.context r.ages))

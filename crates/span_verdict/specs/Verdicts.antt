@@ -3,6 +3,7 @@
 --   IsUnproved       the first bad context of the least closed table, and its first cause
 --   IsVerdict        what a verdict says of a span
 use Rattle.std.specs.Prelude.{◌≡◌, Bool, List}
+use Rattle.pin_matrix.specs.Followed.{followed}
 use Rattle.pin_matrix.specs.declared.setup.Setup.{Setup}
 use Rattle.pin_matrix.specs.declared.span.Span.{Span}
 use Rattle.span_step.specs.declared.cause.Cause.{Cause}
@@ -33,6 +34,6 @@ pub record IsUnproved (u : Setup) (sp : Span) (k : Context) (cause : Cause) : Ty
 
 -- what a verdict says of a span
 abbrev pub IsVerdict : Setup → Span → Verdict → Type 0
-IsVerdict u sp (Proved rows opening closing) = IsProved u sp rows opening closing
+IsVerdict u sp (Proved table opening closing) = (table.follow ≡ followed sp) × IsProved u sp table.rows opening closing
 IsVerdict u sp (Unproved k cause) = IsUnproved u sp k cause
 IsVerdict u sp (Shared m) = IsLeastSharer u sp m

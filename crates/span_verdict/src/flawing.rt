@@ -1,5 +1,6 @@
 //! What is wrong with a table first.
 ghost use Rattle.std.specs.Prelude.{◌≡◌, ◌↔◌, IsSome, None, slice_index_or};
+ghost use Rattle.pin_matrix.specs.Followed.{followed};
 ghost use Rattle.span_bounds.specs.Tables.{IsTable, IsClosed, IsGood};
 ghost use Rattle.span_verdict.specs.Flaws as spec;
 
@@ -13,10 +14,11 @@ use span_bounds::{Row, Rows, Table, step};
 /// configured. It takes no memory.
 #[tactic(auto, unfolding(crate::specs::Flaws::first_flaw))]
 pub fn flaw(table: &Table, setup: &Setup, span: &Span) -> Option<Flaw>
-    requires { IsSome (slice_index_or setup.now.machines span.now.machine None) }
-    ensures first { result ≡ spec.first_flaw setup.now span.now table.now }
-    ensures none { (result ≡ None) ↔ (IsClosed setup.now span.now table.now × IsGood setup.now span.now table.now) }
-    ensures table { IsTable table.now }
+    requires configured { IsSome (slice_index_or setup.now.machines span.now.machine None) }
+    requires follow { table.now.follow ≡ followed span.now }
+    ensures first { result ≡ spec.first_flaw setup.now span.now table.now.rows }
+    ensures none { (result ≡ None) ↔ (IsClosed setup.now span.now table.now.rows × IsGood setup.now span.now table.now.rows) }
+    ensures table { IsTable table.now.follow table.now.rows }
 {
     let rows = table.rows();
     if has_start(table, setup, span) {
@@ -28,8 +30,9 @@ pub fn flaw(table: &Table, setup: &Setup, span: &Span) -> Option<Flaw>
 
 /// What is wrong first with these rows of the table.
 fn rows_flaw(table: &Table, setup: &Setup, span: &Span, rows: Rows<'_>) -> Option<Flaw>
-    requires { IsSome (slice_index_or setup.now.machines span.now.machine None) }
-    ensures { result ≡ spec.rows_flaw setup.now span.now table.now rows.entry }
+    requires configured { IsSome (slice_index_or setup.now.machines span.now.machine None) }
+    requires follow { table.now.follow ≡ followed span.now }
+    ensures { result ≡ spec.rows_flaw setup.now span.now table.now.rows rows.entry }
 {
     let mut rest = rows;
     while let Some(row) = rest.next() {
@@ -43,11 +46,12 @@ fn rows_flaw(table: &Table, setup: &Setup, span: &Span, rows: Rows<'_>) -> Optio
 /// What is wrong with a row of the table.
 #[tactic(auto, unfolding(crate::specs::Flaws::row_flaw))]
 fn row_flaw(table: &Table, setup: &Setup, span: &Span, row: &Row) -> Option<Flaw>
-    requires { IsSome (slice_index_or setup.now.machines span.now.machine None) }
-    ensures { result ≡ spec.row_flaw setup.now span.now table.now row.now }
+    requires configured { IsSome (slice_index_or setup.now.machines span.now.machine None) }
+    requires follow { table.now.follow ≡ followed span.now }
+    ensures { result ≡ spec.row_flaw setup.now span.now table.now.rows row.now }
 {
     let stepped = step(setup, span, &row.context, &row.ages);
-    if !all_lie_in(table, stepped.nexts.as_slice()) {
+    if !all_lie_in(table, stepped.nexts()) {
         return Some(Flaw::Open(row.context));
     }
     match stepped.causes.first() {

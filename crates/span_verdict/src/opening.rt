@@ -9,8 +9,8 @@ use span_bounds::{Rows, Table, step};
 /// machine is configured.
 pub fn opens_and_closes(table: &Table, setup: &Setup, span: &Span) -> (bool, bool)
     requires { IsSome (slice_index_or setup.now.machines span.now.machine None) }
-    ensures opens { result.0 ≡ spec.opens setup.now span.now table.now }
-    ensures closes { result.1 ≡ spec.closes setup.now span.now table.now }
+    ensures opens { result.0 ≡ spec.opens setup.now span.now table.now.rows }
+    ensures closes { result.1 ≡ spec.closes setup.now span.now table.now.rows }
 {
     edges_of(setup, span, table.rows())
 }

@@ -8,6 +8,7 @@ use Rattle.pin_matrix.specs.declared.machine.MachineSetup.{MachineSetup}
 use Rattle.pin_matrix.specs.declared.setup.Setup.{Setup}
 use Rattle.pin_matrix.specs.declared.span.Span.{Span}
 use Rattle.block_config.specs.Answer.{ConfigRefusal}
+use Rattle.block_config.specs.Assume.{assume_at}
 use Rattle.block_config.specs.Arrays.{gather}
 use Rattle.setup_keys.specs.Block.{MachineKeys, SpanKeys, BlockKeys, keys_of_machine, keys_of_span, keys_of_block}
 use Rattle.block_config.specs.Config.{document_of, parsed, sections_at, Sections, no_machines, owning_with, block_over, block_of_sections, block_of_table, said_of, config_block, config_setup_of, second_setup_of}
@@ -21,7 +22,7 @@ use Rattle.block_config.specs.Owning.{OwningKeys, keys_of_owning}
 use Rattle.block_config.specs.declared.owning.OwningSetup.{OwningSetup}
 use Rattle.block_config.specs.Pins.{pins_in}
 use Rattle.block_config.specs.Programs.{Loaded}
-use Rattle.block_config.specs.Spans.{span_names, configured, machine_at, from_names, to_names, pin_at, edge_at, required, SpanEnds, ends_at, bounds_at, exempt_at, events_at, load_of_span, SpanValues, values_at, span_keys_of, name_at, span_of_table, span_in, all_spans}
+use Rattle.block_config.specs.Spans.{span_names, configured, machine_at, from_names, to_names, pin_at, edge_at, required, SpanEnds, ends_at, bounds_at, exempt_at, events_at, load_of_span, SpanValues, values_at, span_keys_of, name_at, named_values, span_at, span_in, all_spans}
 use Rattle.block_config.specs.declared.pins.BlockNumber.{BlockNumber}
 use Rattle.block_config.specs.declared.pins.BlockNumber.TheVariants.{First, Second}
 use Rattle.block_config.specs.declared.path.Section.{Section}
@@ -91,11 +92,11 @@ values_placed machines loads t v e =
     let events = goes_on (events_at load t) (λ events. Ok (record { ends = ends.value; bounds = bounds.value; exempt = exempt.value; events = events })) v exempt.rest in
     subst (λ (x : SpanValues). IsPlaced machines x.ends.machine) (ok_same _ v events.rest) (ends_placed machines t ends.value ends.found)
 
-table_placed : (machines : List (Option MachineKeys)) (loads : List Loaded) (t : Members) (s : SpanKeys) → span_of_table machines loads t ≡ Ok s → IsPlaced machines s.machine
-table_placed machines loads t s e =
-    let name = goes_on (name_at t) (λ name. and_then (values_at machines loads t) (λ values. Ok (span_keys_of name values))) s e in
-    let values = goes_on (values_at machines loads t) (λ values. Ok (span_keys_of name.value values)) s name.rest in
-    subst (λ (x : SpanKeys). IsPlaced machines x.machine) (ok_same (span_keys_of name.value values.value) s values.rest) (values_placed machines loads t values.value values.found)
+named_placed : (machines : List (Option MachineKeys)) (loads : List Loaded) (t : Members) (v : List ℕ × SpanValues) → named_values machines loads t ≡ Ok v → IsPlaced machines v.1.ends.machine
+named_placed machines loads t v e =
+    let name = goes_on (name_at t) (λ name. and_then (values_at machines loads t) (λ values. Ok (name, values))) v e in
+    let values = goes_on (values_at machines loads t) (λ values. Ok (name.value, values)) v name.rest in
+    subst (λ (x : List ℕ × SpanValues). IsPlaced machines x.1.ends.machine) (ok_same (name.value, values.value) v values.rest) (values_placed machines loads t values.value values.found)
 
 -- ---- all spans
 
@@ -108,10 +109,14 @@ known_read section r x true refusal e = off_section section r x e
 known_read section r x false refusal e = cc
 
 element_placed : (machines : List (Option MachineKeys)) (loads : List Loaded) (place : ℕ) (o : Option Members) (s : SpanKeys)
-    → element_of (codes "span") o (λ t. section_at (section.Span place) span_names t (span_of_table machines loads t)) ≡ Ok s → IsPlaced machines s.machine
+    → element_of (codes "span") o (λ t. span_at place machines loads t) ≡ Ok s → IsPlaced machines s.machine
 element_placed machines loads place None s e = cc
 element_placed machines loads place (Some t) s e =
-    table_placed machines loads t s (known_read (section.Span place) (span_of_table machines loads t) s (are_known span_names t) _ e)
+    let said = goes_on (section_at (section.Span place) span_names t (named_values machines loads t)) (λ v. and_then (assume_at place (load_of_span machines loads v.1.ends.machine) t) (λ assume. Ok (span_keys_of v.0 v.1 assume))) s e in
+    let load = load_of_span machines loads said.value.1.ends.machine in
+    let assume = goes_on (assume_at place load t) (λ assume. Ok (span_keys_of said.value.0 said.value.1 assume)) s said.rest in
+    subst (λ (x : SpanKeys). IsPlaced machines x.machine) (ok_same (span_keys_of said.value.0 said.value.1 assume.value) s assume.rest)
+    (named_placed machines loads t said.value (known_read (section.Span place) (named_values machines loads t) said.value (are_known span_names t) _ said.found))
 
 ArePlaced : List (Option MachineKeys) → List SpanKeys → Type 0
 ArePlaced machines spans = AllByRecursion (λ s. IsPlaced machines s.machine) spans

@@ -24,7 +24,7 @@ all_at P (x ∷ xs) (suc i) d h lt = all_at P xs i d h.1 (omega arith)
 
 -- what a verdict without its table says
 pub without_table : (u : Setup) (sp : Span) (v : Verdict) → IsVerdict u sp v → IsVerdictOn u sp (found_by sp v)
-without_table u sp (verdict.Proved rows opens closes) h = record { rows = rows; opens = opens; closes = closes; proved = h; said = refl }
+without_table u sp (verdict.Proved table opens closes) h = record { rows = table.rows; opens = opens; closes = closes; proved = h.1; said = refl }
 without_table u sp (verdict.Unproved k cause) h = h
 without_table u sp (verdict.Shared m) h = h
 

@@ -14,6 +14,8 @@ use Rattle.dreq_pacing.specs.declared.line.Line.{Line}
 use Rattle.dreq_pacing.specs.Reading as stimulus
 use Rattle.dreq_pacing.specs.Reading.{stimulus_of}
 use Rattle.dreq_pacing.specs.Blocks.{pair_stimulus_of}
+use Rattle.pin_matrix.specs.Followed.{followed}
+use Rattle.pin_matrix.specs.declared.assume.Follow.{Follow}
 use Rattle.pin_matrix.specs.declared.setup.Setup.{Setup}
 use Rattle.block_config.specs.Answer as config
 use Rattle.block_config.specs.Config.{config_setup_of, second_setup_of}
@@ -170,11 +172,11 @@ abbrev pub judged_table : Result (List Row) table_file.TableRefusal → Judged (
 judged_table (Ok rows) = right rows
 judged_table (Err refusal) = wrong (fault.Table refusal.line refusal.kind)
 
--- the rows of the table file with this name
-unfoldable pub table_at : Files → List ℕ → Judged (List Row)
-table_at files name = and_then (read_at file.Table (get files name)) (λ bytes. judged_table (table_of bytes))
+-- the rows of the table file with this name, where X and Y are followed so far
+unfoldable pub table_at : Follow → Files → List ℕ → Judged (List Row)
+table_at d files name = and_then (read_at file.Table (get files name)) (λ bytes. judged_table (table_of d bytes))
 
 -- the setup and its span of this name, and then the rows of a table file
 unfoldable pub recheck_at : Files → List ℕ → Option (List ℕ) → List ℕ → List ℕ → Judged ((Setup × Span) × List Row)
 recheck_at files source config name table =
-    and_then (span_at files source config name) (λ asked. and_then (table_at files table) (λ rows. right (asked, rows)))
+    and_then (span_at files source config name) (λ asked. and_then (table_at (followed asked.1) files table) (λ rows. right (asked, rows)))

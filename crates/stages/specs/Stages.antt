@@ -7,6 +7,7 @@ use Rattle.std.specs.FinMap.{get}
 use Rattle.pio_edge.specs.Count.{Faults, failed_at}
 use Rattle.pio_edge.specs.Edge.{Files}
 use Rattle.pio_assemble.specs.Program.{Assembled}
+use Rattle.pin_matrix.specs.declared.assume.Follow.{Follow}
 use Rattle.pin_matrix.specs.declared.setup.Setup.{Setup}
 use Rattle.dreq_pacing.specs.declared.line.Line.{Line}
 use Rattle.block_config.specs.declared.owning.OwningSetup.{OwningSetup}
@@ -95,8 +96,8 @@ abbrev pub schedules_plan : Option (List ℕ) → Plan (List Line × List Line)
 schedules_plan name = plan_of (λ files. schedules_at files name) (one_slot file.Stimulus name)
 
 -- a table file's rows
-abbrev pub table_plan : List ℕ → Plan (List Row)
-table_plan name = plan_of (λ files. table_at files name) (one_slot file.Table (Some name))
+abbrev pub table_plan : Follow → List ℕ → Plan (List Row)
+table_plan d name = plan_of (λ files. table_at d files name) (one_slot file.Table (Some name))
 
 -- a setup and the lines of a stimulus
 abbrev pub run_plan : List ℕ → Option (List ℕ) → Option (List ℕ) → Plan (Setup × List Line)

@@ -32,7 +32,7 @@ pub fn fetch_file<F: Shelf>(
 }
 
 /// How many bytes a file may have.
-fn limit_of(role: File) -> usize
+pub fn limit_of(role: File) -> usize
     ensures value { result ≡ limit role }
     ensures small { result ≤ 33554432 }
 {

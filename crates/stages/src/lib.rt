@@ -15,7 +15,7 @@ mod stimulus;
 mod table;
 mod words;
 
-pub use fetch::fetch_file;
+pub use fetch::{fetch_file, limit_of};
 pub use named::span_named;
 pub use pair::{TwoBlocks, prepare_pair};
 pub use pair_spans::ask_both_spans;

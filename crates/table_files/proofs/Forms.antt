@@ -4,6 +4,7 @@ use Rattle.std.specs.Prelude.{option_map}
 use Rattle.std.proofs.lemmas.Bool.{cases_lt}
 use Rattle.std.proofs.lemmas.Bool.Decides.{nat_tests}
 use Rattle.std.proofs.lemmas.Option.{same_Some}
+use Rattle.pin_matrix.specs.declared.assume.Follow.{Follow}
 use Rattle.span_step.specs.declared.ages.Ages.{Ages}
 use Rattle.span_step.specs.declared.ages.Ages.TheVariants.{Empty, Between}
 use Rattle.span_bounds.specs.declared.row.Row.{Row}
@@ -66,9 +67,15 @@ placed-capped n = elim (cases_lt n 16777217) [
   | inr ge ↦ rw (past n ge, not_placed n ge) refl
 ]
 
-known_placed-capped : (o : Option ℕ) → known_placed (option_map capped o) ≡ known_placed o
-known_placed-capped None = refl
-known_placed-capped (Some n) = ap (option_map Some) (placed-capped n)
+not_known : (most n : ℕ) → most < 16777217 → 16777217 ≤ n → nat_le n most ≡ false
+not_known most n k l = grind (arith, nat_tests)
+
+known_placed-capped : (most : ℕ) (o : Option ℕ) → most < 16777217 → known_placed most (option_map capped o) ≡ known_placed most o
+known_placed-capped most None k = refl
+known_placed-capped most (Some n) k = elim (cases_lt n 16777217) [
+  | inl lt ↦ ap (λ (i : ℕ). known_placed most (Some i)) (same n lt)
+  | inr ge ↦ rw (past n ge, not_known most 16777217 k (omega arith), not_known most n k ge) refl
+]
 
 not_level : (n m : ℕ) → 16777217 ≤ n → m ≤ 1 → (n == m) ≡ false
 not_level n m l k = grind (arith, nat_tests)
@@ -96,21 +103,26 @@ ages_placed-capped (Between lo hi) = elim (cases_lt hi 16777217) [
   | inr far ↦ rw (past hi far, not_within hi 16777216 (omega arith), and_no (nat_le (capped lo) 16777217), and_no (nat_le lo hi)) refl
 ]
 
-pub row_of-capped : (s : Said) → row_of (capped_said s) ≡ row_of s
-row_of-capped s = rw (placed-capped s.address, known_placed-capped s.x, known_placed-capped s.y, level_of-capped s.from, level_of-capped s.to, ages_placed-capped s.ages) refl
+-- X and Y are followed up to no more than numbers are read
+pub record AreRead (d : Follow) : Type 0 where
+  pub x : d.x < 16777217
+  pub y : d.y < 16777217
+
+pub row_of-capped : (d : Follow) (s : Said) → AreRead d → row_of d (capped_said s) ≡ row_of d s
+row_of-capped d s k = rw (placed-capped s.address, known_placed-capped d.x s.x k.x, known_placed-capped d.y s.y k.y, level_of-capped s.from, level_of-capped s.to, ages_placed-capped s.ages) refl
 
 -- a line that says nothing
-pub none_said : (least : ℕ) (o : Option Said) → None ≡ option_map capped_said o → Err BadLine ≡ row_from least o
-none_said least None e = refl
-none_said least (Some s) e = absurd (bad e) where
+pub none_said : (d : Follow) (least : ℕ) (o : Option Said) → None ≡ option_map capped_said o → Err BadLine ≡ row_from d least o
+none_said d least None e = refl
+none_said d least (Some s) e = absurd (bad e) where
   bad : {A : Type 0} {x : A} → None ≡ Some x → ⊥
   bad e = cc
 
 -- a line that says this
-pub some_said : (least : ℕ) (o : Option Said) (s : Said) → Some s ≡ option_map capped_said o → in_order least (row_of s) ≡ row_from least o
-some_said least None s e = absurd (bad e) where
+pub some_said : (d : Follow) (least : ℕ) (o : Option Said) (s : Said) → AreRead d → Some s ≡ option_map capped_said o → in_order d least (row_of d s) ≡ row_from d least o
+some_said d least None s k e = absurd (bad e) where
   bad : {A : Type 0} {x : A} → Some x ≡ None → ⊥
   bad e = cc
-some_said least (Some t) s e =
+some_said d least (Some t) s k e =
     let h : s ≡ capped_said t = same_Some s (capped_said t) e in
-    ap (λ (r : Option Row). in_order least r) (ap row_of h ∙ row_of-capped t)
+    ap (λ (r : Option Row). in_order d least r) (ap (row_of d) h ∙ row_of-capped d t k)

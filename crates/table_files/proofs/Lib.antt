@@ -9,3 +9,4 @@ pub mod Readback
 pub mod OneText
 pub mod Rights
 pub mod LeastTold
+pub mod Lengths

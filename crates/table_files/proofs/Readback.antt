@@ -9,6 +9,7 @@ use Rattle.std.proofs.lemmas.List.Elements.{All-from_recursion}
 use Rattle.std.proofs.lemmas.List.Splits.{slice_split_at}
 use Rattle.std.proofs.lemmas.Str.Parse.{digit_from_value}
 use Rattle.byte_lines.specs.Lines.{lines_of, lines_left}
+use Rattle.pin_matrix.specs.declared.assume.Follow.{Follow}
 use Rattle.span_step.specs.declared.ages.Ages.{Ages}
 use Rattle.span_step.specs.declared.ages.Ages.TheVariants.{Empty, Between}
 use Rattle.span_step.specs.Contexts.{is_placed, is_small}
@@ -67,9 +68,9 @@ said_back r h =
       ages_in-text r.ages h.ages,
     ) refl
 
-known_back : (o : Option ℕ) → is_small o ≡ true → known_placed o ≡ Some o
-known_back None h = refl
-known_back (Some n) h = rw h refl
+known_back : (most : ℕ) (o : Option ℕ) → is_small most o ≡ true → known_placed most o ≡ Some o
+known_back most None h = refl
+known_back most (Some n) h = rw h refl
 
 level_back : (b : Bool) → level_of (level_number b) ≡ Some b
 level_back true = refl
@@ -91,35 +92,43 @@ three false b c h = absurd (bad h) where
   bad : false ≡ true → ⊥
   bad e = cc
 
-row_back : (r : Row) → is_placed r.context.address r.context.x r.context.y ≡ true → IsAgeRange r.ages → row_of (said_row r) ≡ Some r
-row_back r p h =
-    let q = three (nat_lt r.context.address 32) (is_small r.context.x) (is_small r.context.y) p in
-    rw (q.0, known_back r.context.x q.1.0, known_back r.context.y q.1.1, level_back r.context.from, level_back r.context.to, ages_back r.ages h) refl
+row_back : (d : Follow) (r : Row) → is_placed d r.context.address r.context.x r.context.y ≡ true → IsAgeRange r.ages → row_of d (said_row r) ≡ Some r
+row_back d r p h =
+    let q = three (nat_lt r.context.address 32) (is_small d.x r.context.x) (is_small d.y r.context.y) p in
+    rw (q.0, known_back d.x r.context.x q.1.0, known_back d.y r.context.y q.1.1, level_back r.context.from, level_back r.context.to, ages_back r.ages h) refl
 
 below : (n : ℕ) → nat_lt n 32 ≡ true → n < 2 ^ 64
 below n h = let l : n < 32 = grind (arith, nat_tests) in omega arith
 
-small_known : (o : Option ℕ) → is_small o ≡ true → IsSmall o
-small_known None h n e = absurd (bad e) where
+-- X and Y are followed up to no more than 16 bits hold
+pub record IsNarrow (d : Follow) : Type 0 where
+  pub x : d.x < 2 ^ 16
+  pub y : d.y < 2 ^ 16
+
+not_above : (most n : ℕ) → most < 2 ^ 16 → nat_le n most ≡ true → n < 2 ^ 64
+not_above most n k h = let l : n ≤ most = grind (arith, nat_tests) in omega (arith, k, l)
+
+small_known : (most : ℕ) (o : Option ℕ) → most < 2 ^ 16 → is_small most o ≡ true → IsSmall o
+small_known most None k h n e = absurd (bad e) where
   bad : {A : Type 0} {x : A} → None ≡ Some x → ⊥
   bad e = cc
-small_known (Some m) h n e = let s : m ≡ n = cc in below n (rw s at h)
+small_known most (Some m) k h n e = let s : m ≡ n = cc in not_above most n k (rw s at h)
 
 small_ages : (a : Ages) → IsAgeRange a → AreSmall a
 small_ages Empty h = tt
 small_ages (Between lo hi) h = (omega (arith, h.0, h.1), omega (arith, h.1))
 
 -- the numbers of a row in range are written in few digits
-pub written : (r : Row) → is_placed r.context.address r.context.x r.context.y ≡ true → IsAgeRange r.ages → IsWritten r
-written r p h =
-    let q = three (nat_lt r.context.address 32) (is_small r.context.x) (is_small r.context.y) p in
-    record { address = below r.context.address q.0; x = small_known r.context.x q.1.0; y = small_known r.context.y q.1.1; ages = small_ages r.ages h }
+pub written : (d : Follow) (r : Row) → IsNarrow d → is_placed d r.context.address r.context.x r.context.y ≡ true → IsAgeRange r.ages → IsWritten r
+written d r k p h =
+    let q = three (nat_lt r.context.address 32) (is_small d.x r.context.x) (is_small d.y r.context.y) p in
+    record { address = below r.context.address q.0; x = small_known d.x r.context.x k.x q.1.0; y = small_known d.y r.context.y k.y q.1.1; ages = small_ages r.ages h }
 
-row_at-text : (least : ℕ) (r : Row) → is_placed r.context.address r.context.x r.context.y ≡ true → IsAgeRange r.ages → nat_le least (number_of r.context) ≡ true → row_at least (row_text r) ≡ Ok r
+row_at-text : (d : Follow) (least : ℕ) (r : Row) → IsNarrow d → is_placed d r.context.address r.context.x r.context.y ≡ true → IsAgeRange r.ages → nat_le least (number_of d r.context) ≡ true → row_at d least (row_text r) ≡ Ok r
 unfolding row_at
-row_at-text least r p h l =
-    let w = written r p h in
-    rw (split_join (decimal r.context.address) _ (without_fields 32 r (omega arith) w), said_back r w, row_back r p h, l) refl
+row_at-text d least r k p h l =
+    let w = written d r k p h in
+    rw (split_join (decimal r.context.address) _ (without_fields 32 r (omega arith) w), said_back r w, row_back d r p h, l) refl
 
 digits_not_end : (ds tail : List ℕ) → AllDigits 10 ds → 0 < length ds → bytes_eq (ds ++ tail) end_line ≡ false
 digits_not_end [] tail h l = absurd (omega arith)
@@ -144,33 +153,33 @@ first_row r after w =
     ap lines_of text
     ∙ slice_split_at (λ b. eqb b 10) (row_text r) 10 after (All-from_recursion (λ b. eqb b 10 ≡ false) (row_text r) (without_join (row_fields r) (without_fields 10 r (omega arith) w))) refl
 
-rows_back : (number least : ℕ) (rows : List Row) → IsTableFrom least rows → HaveAgeRanges rows → rows_from number least (lines_of (row_lines rows ++ codes "end\n")) ≡ Ok rows
-rows_back number least [] h k = refl
-rows_back number least (r ∷ rs) h k =
-    let w = written r h.0 k.0 in
+rows_back : (d : Follow) (number least : ℕ) (rows : List Row) → IsNarrow d → IsTableFrom d least rows → HaveAgeRanges rows → rows_from d number least (lines_of (row_lines rows ++ codes "end\n")) ≡ Ok rows
+rows_back d number least [] n h k = refl
+rows_back d number least (r ∷ rs) n h k =
+    let w = written d r n h.0 k.0 in
     let text : lines_of (row_lines (r ∷ rs) ++ codes "end\n") ≡ row_text r ∷ lines_of (row_lines rs ++ codes "end\n") =
     ap lines_of (append_assoc (row_line r) (row_lines rs) (codes "end\n")) ∙ first_row r (row_lines rs ++ codes "end\n") w in
-    ap (rows_from number least) text
-    ∙ (row_here number least (row_text r) (row_lines rs ++ codes "end\n") r (not_end r w) (row_at-text least r h.0 k.0 (from_least least (number_of r.context) h.1.0))
-    ∙ ap (with_row r) (rows_back (number + 1) (number_of r.context + 1) rs h.1.1 k.1))
+    ap (rows_from d number least) text
+    ∙ (row_here d number least (row_text r) (row_lines rs ++ codes "end\n") r (not_end r w) (row_at-text d least r n h.0 k.0 (from_least least (number_of d r.context) h.1.0))
+    ∙ ap (with_row r) (rows_back d (number + 1) (number_of d r.context + 1) rs n h.1.1 k.1))
 
 -- a file with this first line
-pub after_head : (line text : List ℕ) → rows_in (line ∷ lines_of text) ≡ rows_after line (lines_of text)
-after_head line text = let p = lines_cons text in rw p.2 refl
+pub after_head : (d : Follow) (line text : List ℕ) → rows_in d (line ∷ lines_of text) ≡ rows_after d line (lines_of text)
+after_head d line text = let p = lines_cons text in rw p.2 refl
 
 -- the same of the bytes of the file
-pub after_file : (bytes line : List ℕ) (after : Option (Bor (List ℕ))) (text : Bor (List ℕ)) → lines_of bytes ≡ line ∷ lines_left (option_copied after) → after ≡ Some text
-    → rows_after line (lines_of text.now) ≡ table_of bytes
+pub after_file : (d : Follow) (bytes line : List ℕ) (after : Option (Bor (List ℕ))) (text : Bor (List ℕ)) → lines_of bytes ≡ line ∷ lines_left (option_copied after) → after ≡ Some text
+    → rows_after d line (lines_of text.now) ≡ table_of d bytes
 unfolding table_of
-after_file bytes line after text first more =
-    sym (after_head line text.now)
-    ∙ ap rows_in (sym (first ∙ ap (λ (r : Option (Bor (List ℕ))). line ∷ lines_left (option_copied r)) more))
+after_file d bytes line after text first more =
+    sym (after_head d line text.now)
+    ∙ ap (rows_in d) (sym (first ∙ ap (λ (r : Option (Bor (List ℕ))). line ∷ lines_left (option_copied r)) more))
 
 -- a table is read back
-pub table_back : (rows : List Row) → IsTable rows → HaveAgeRanges rows → table_of (table_text rows) ≡ Ok rows
+pub table_back : (d : Follow) (rows : List Row) → d.x < 2 ^ 16 → d.y < 2 ^ 16 → IsTable d rows → HaveAgeRanges rows → table_of d (table_text rows) ≡ Ok rows
 unfolding table_of table_text
-table_back rows h k =
+table_back d rows x y h k =
     let text = row_lines rows ++ codes "end\n" in
     let head : Without 10 head_line = (refl, (refl, (refl, (refl, (refl, (refl, (refl, (refl, (refl, (refl, (refl, tt))))))))))) in
-    ap rows_in (slice_split_at (λ b. eqb b 10) head_line 10 text (All-from_recursion (λ b. eqb b 10 ≡ false) head_line head) refl)
-    ∙ (after_head head_line text ∙ rows_back 2 0 rows h k)
+    ap (rows_in d) (slice_split_at (λ b. eqb b 10) head_line 10 text (All-from_recursion (λ b. eqb b 10 ≡ false) head_line head) refl)
+    ∙ (after_head d head_line text ∙ rows_back d 2 0 rows (record { x = x; y = y }) h k)

@@ -2,7 +2,7 @@
 --   flaw_line        the line of a flaw
 use Rattle.std.specs.Prelude.{ℕ, ◌++◌, Bool, List, codes, decimal}
 use Rattle.span_step.specs.declared.cause.Cause.{Cause}
-use Rattle.span_step.specs.declared.cause.Cause.TheVariants.{U1, U2, U3, U4}
+use Rattle.span_step.specs.declared.cause.Cause.TheVariants.{U1, U2, U3, U4, U6}
 use Rattle.span_step.specs.Contexts.{Context}
 use Rattle.span_verdict.specs.declared.table_flaw.Flaw.{Flaw}
 use Rattle.span_verdict.specs.declared.table_flaw.Flaw.TheVariants.{Start, Open, Bad}
@@ -18,6 +18,7 @@ cause_ending U1 = codes ": U1"
 cause_ending U2 = codes ": U2"
 cause_ending U3 = codes ": U3"
 cause_ending U4 = codes ": U4"
+cause_ending U6 = codes ": U6"
 
 -- the line of a flaw of a row, of these texts: what the flaw is, where the row is, and how the line ends
 abbrev pub fields_line : (front name flaw : List ℕ) → (address : ℕ) → (x y levels ending : List ℕ) → List ℕ

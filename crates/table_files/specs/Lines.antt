@@ -8,6 +8,7 @@ use Rattle.std.specs.List.{slice_split}
 use Rattle.std.specs.Str.{bytes_eq}
 use Rattle.answers.specs.Steps.{◌>>=◌}
 use Rattle.byte_lines.specs.Bytes.{space}
+use Rattle.pin_matrix.specs.declared.assume.Follow.{Follow}
 use Rattle.span_step.specs.declared.ages.Ages.{Ages}
 use Rattle.span_step.specs.declared.ages.Ages.TheVariants.{Empty, Between}
 use Rattle.span_bounds.specs.declared.row.Row.{Row}
@@ -64,10 +65,10 @@ said_in _ = None
 abbrev pub placed : ℕ → Option ℕ
 placed n = if nat_lt n 32 then Some n else None
 
--- what is known of X or Y, in range
-abbrev pub known_placed : Option ℕ → Option (Option ℕ)
-known_placed None = Some None
-known_placed (Some n) = option_map Some (placed n)
+-- what is known of X or Y, where it is followed up to this
+abbrev pub known_placed : ℕ → Option ℕ → Option (Option ℕ)
+known_placed most None = Some None
+known_placed most (Some n) = if nat_le n most then Some (Some n) else None
 
 -- a level
 abbrev pub level_of : ℕ → Option Bool
@@ -94,20 +95,20 @@ row_by address x y from to ages = do
   Some (record { context = record { address = a; x = b; y = c; from = d; to = e }; ages = f })
 
 -- the row that is said, if its numbers are in range
-abbrev pub row_of : Said → Option Row
-row_of s = row_by (placed s.address) (known_placed s.x) (known_placed s.y) (level_of s.from) (level_of s.to) (ages_placed s.ages)
+abbrev pub row_of : Follow → Said → Option Row
+row_of d s = row_by (placed s.address) (known_placed d.x s.x) (known_placed d.y s.y) (level_of s.from) (level_of s.to) (ages_placed s.ages)
 
 -- a row whose context has at least this number
-abbrev pub in_order : ℕ → Option Row → Result Row TableKind
-in_order least None = Err Range
-in_order least (Some r) = if nat_le least (number_of r.context) then Ok r else Err Order
+abbrev pub in_order : Follow → ℕ → Option Row → Result Row TableKind
+in_order d least None = Err Range
+in_order d least (Some r) = if nat_le least (number_of d r.context) then Ok r else Err Order
 
 -- the row that is said, if anything is
-abbrev pub row_from : ℕ → Option Said → Result Row TableKind
-row_from least None = Err BadLine
-row_from least (Some s) = in_order least (row_of s)
+abbrev pub row_from : Follow → ℕ → Option Said → Result Row TableKind
+row_from d least None = Err BadLine
+row_from d least (Some s) = in_order d least (row_of d s)
 
 -- The row of a line, or what is wrong with it: its form, else a number outside its range, else a context that doesn't come
 -- after those of the rows before, whose numbers are all below this one.
-unfoldable pub row_at : ℕ → List ℕ → Result Row TableKind
-row_at least line = row_from least (said_in (fields_of line))
+unfoldable pub row_at : Follow → ℕ → List ℕ → Result Row TableKind
+row_at d least line = row_from d least (said_in (fields_of line))

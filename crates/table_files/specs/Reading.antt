@@ -5,6 +5,7 @@
 use Rattle.std.specs.Prelude.{ℕ, ◌+◌, List, [], ◌∷◌, Result, Ok, Err, if◌then◌else◌, codes}
 use Rattle.std.specs.Str.{bytes_eq}
 use Rattle.byte_lines.specs.Lines.{lines_of}
+use Rattle.pin_matrix.specs.declared.assume.Follow.{Follow}
 use Rattle.span_bounds.specs.declared.row.Row.{Row}
 use Rattle.span_bounds.specs.Numbers.{number_of}
 use Rattle.table_files.specs.declared.fault.TableKind.{TableKind}
@@ -43,26 +44,26 @@ with_row r (Err refusal) = Err refusal
 
 -- The rows of lines up to `end`, or the first fault. The last of these is what comes after the last newline. The first has
 -- this number, and each row's context has at least this place in the order and comes after the row before.
-abbrev pub rows_from : (number least : ℕ) → List (List ℕ) → Result (List Row) TableRefusal
-rows_from number least [] = wrong_at number NoEnd
-rows_from number least (last ∷ []) = left_open number last
-rows_from number least (line ∷ next ∷ others) =
+abbrev pub rows_from : Follow → (number least : ℕ) → List (List ℕ) → Result (List Row) TableRefusal
+rows_from d number least [] = wrong_at number NoEnd
+rows_from d number least (last ∷ []) = left_open number last
+rows_from d number least (line ∷ next ∷ others) =
     if bytes_eq line end_line then ended (number + 1) (next ∷ others)
-    else elim (row_at least line) [
+    else elim (row_at d least line) [
       | Err kind ↦ wrong_at number kind
-      | Ok r ↦ with_row r (rows_from (number + 1) (number_of r.context + 1) (next ∷ others))
+      | Ok r ↦ with_row r (rows_from d (number + 1) (number_of d r.context + 1) (next ∷ others))
     ]
 
 -- the rows of a file with this first line and these others
-abbrev pub rows_after : List ℕ → List (List ℕ) → Result (List Row) TableRefusal
-rows_after line others = if bytes_eq line head_line then rows_from 2 0 others else wrong_at 1 BadLine
+abbrev pub rows_after : Follow → List ℕ → List (List ℕ) → Result (List Row) TableRefusal
+rows_after d line others = if bytes_eq line head_line then rows_from d 2 0 others else wrong_at 1 BadLine
 
 -- the rows of a file of these lines
-abbrev pub rows_in : List (List ℕ) → Result (List Row) TableRefusal
-rows_in [] = wrong_at 1 NoEnd
-rows_in (last ∷ []) = left_open 1 last
-rows_in (line ∷ next ∷ others) = rows_after line (next ∷ others)
+abbrev pub rows_in : Follow → List (List ℕ) → Result (List Row) TableRefusal
+rows_in d [] = wrong_at 1 NoEnd
+rows_in d (last ∷ []) = left_open 1 last
+rows_in d (line ∷ next ∷ others) = rows_after d line (next ∷ others)
 
--- The rows of a file, or its first fault: the least faulty line, and what is wrong with it.
-unfoldable pub table_of : List ℕ → Result (List Row) TableRefusal
-table_of bytes = rows_in (lines_of bytes)
+-- The rows of a file, where X and Y are followed so far, or its first fault: the least faulty line, and what is wrong with it.
+unfoldable pub table_of : Follow → List ℕ → Result (List Row) TableRefusal
+table_of d bytes = rows_in d (lines_of bytes)

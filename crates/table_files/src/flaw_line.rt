@@ -147,5 +147,6 @@ fn cause_ending(cause: Cause) -> &'static str
         Cause::U2 => ": U2",
         Cause::U3 => ": U3",
         Cause::U4 => ": U4",
+        Cause::U6 => ": U6",
     }
 }

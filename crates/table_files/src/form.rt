@@ -1,6 +1,6 @@
 //! The row of a line.
-ghost use Rattle.std.specs.Prelude.{◌≡◌, ◌<◌, ◌∷◌, IfSome, IsTrue, option_map};
-ghost use Rattle.span_step.specs.Contexts.{is_small};
+ghost use Rattle.std.specs.Prelude.{◌≡◌, ◌<◌, ◌∷◌, IfOk, IfSome, IsTrue, option_map};
+ghost use Rattle.span_step.specs.Contexts.{is_placed, is_small};
 ghost use Rattle.table_files.specs.Capped.{capped_ages, capped_said};
 ghost use Rattle.table_files.specs.Lines as spec;
 ghost use Rattle.table_files.specs.Numbers.{capped};
@@ -9,27 +9,32 @@ use crate::fault::TableKind;
 use crate::fields::Fields;
 use crate::number::number_in;
 use crate::said::Said;
+use pin_matrix::Follow;
 use span_bounds::{Ages, Context, Row, number_of};
 
-/// The row of a line, or what is wrong with it, after rows whose contexts' numbers are all below this one.
+/// The row of a line, or what is wrong with it, where X and Y are followed so far, after rows whose contexts' numbers are all below
+/// this one.
 #[tactic(auto, unfolding(crate::specs::Lines::row_at))]
-pub(crate) fn read_row(line: &[u8], least: usize) -> Result<Row, TableKind>
-    ensures { result ≡ spec.row_at least line.now }
+pub(crate) fn read_row(follow: Follow, line: &[u8], least: usize) -> Result<Row, TableKind>
+    ensures value { result ≡ spec.row_at follow least line.now }
+    ensures placed { IfOk result (λ row. IsTrue (is_placed follow row.context.address row.context.x row.context.y)) }
 {
     match said_in(line) {
         None => Err(TableKind::BadLine),
-        Some(said) => in_order(row_of(&said), least),
+        Some(said) => in_order(follow, row_of(follow, &said), least),
     }
 }
 
 /// A row whose context has at least this number, or what is wrong with it.
-fn in_order(row: Option<Row>, least: usize) -> Result<Row, TableKind>
-    ensures { result ≡ spec.in_order least row }
+fn in_order(follow: Follow, row: Option<Row>, least: usize) -> Result<Row, TableKind>
+    requires { IfSome row (λ row. IsTrue (is_placed follow row.context.address row.context.x row.context.y)) }
+    ensures value { result ≡ spec.in_order follow least row }
+    ensures placed { IfOk result (λ row. IsTrue (is_placed follow row.context.address row.context.x row.context.y)) }
 {
     match row {
         None => Err(TableKind::Range),
         Some(row) => {
-            if least <= number_of(&row.context) {
+            if least <= number_of(follow, &row.context) {
                 Ok(row)
             } else {
                 Err(TableKind::Order)
@@ -138,13 +143,14 @@ fn between(lo: Option<u32>, hi: Option<u32>) -> Option<Ages>
 }
 
 /// The row that is said, if its numbers are in range.
-fn row_of(said: &Said) -> Option<Row>
-    ensures { result ≡ spec.row_of said.now }
+fn row_of(follow: Follow, said: &Said) -> Option<Row>
+    ensures value { result ≡ spec.row_of follow said.now }
+    ensures placed { IfSome result (λ row. IsTrue (is_placed follow row.context.address row.context.x row.context.y)) }
 {
     row_by(
         placed(said.address),
-        known_placed(said.x),
-        known_placed(said.y),
+        known_placed(follow.x, said.x),
+        known_placed(follow.y, said.y),
         level_of(said.from),
         level_of(said.to),
         ages_placed(said.ages),
@@ -154,15 +160,13 @@ fn row_of(said: &Said) -> Option<Row>
 /// The row of these parts, if each is in range.
 fn row_by(
     address: Option<u8>,
-    x: Option<Option<u8>>,
-    y: Option<Option<u8>>,
+    x: Option<Option<u16>>,
+    y: Option<Option<u16>>,
     from: Option<bool>,
     to: Option<bool>,
     ages: Option<Ages>,
 ) -> Option<Row>
-    requires address { IfSome address (λ n. n < 32) }
-    requires x { IfSome x (λ known. IsTrue (is_small known)) }
-    requires y { IfSome y (λ known. IsTrue (is_small known)) }
+    requires { IfSome address (λ n. n < 32) }
     ensures { result ≡ spec.row_by address x y from to ages }
 {
     let context = Context {
@@ -191,16 +195,14 @@ fn placed(number: u32) -> Option<u8>
 }
 
 /// What is known of X or Y, in range.
-fn known_placed(known: Option<u32>) -> Option<Option<u8>>
-    ensures value { result ≡ spec.known_placed known }
-    ensures range { IfSome result (λ known. IsTrue (is_small known)) }
+fn known_placed(most: u16, known: Option<u32>) -> Option<Option<u16>>
+    ensures value { result ≡ spec.known_placed most known }
+    ensures range { IfSome result (λ known. IsTrue (is_small most known)) }
 {
     match known {
         None => Some(None),
-        Some(number) => match placed(number) {
-            Some(number) => Some(Some(number)),
-            None => None,
-        },
+        Some(number) if number <= u32::from(most) => Some(Some(number as u16)),
+        Some(_) => None,
     }
 }
 

@@ -9,7 +9,7 @@ use span_bounds::{Ages, Context, Row, Table};
 
 /// Puts the text of the table, in pieces of a field or less. It takes no memory.
 pub fn put_table<S: Sink>(sink: &mut S, table: &Table) -> Result<(), SinkFailed>
-    ensures bytes { Takes (S.taken sink.old) (spec.table_text table.now) (S.taken sink.new) result }
+    ensures bytes { Takes (S.taken sink.old) (spec.table_text table.now.rows) (S.taken sink.new) result }
     ensures cause { PutCounts (S.faults sink.old) (S.faults sink.new) result }
 {
     sink.put(b"pio table 1\n")?;
@@ -19,7 +19,7 @@ pub fn put_table<S: Sink>(sink: &mut S, table: &Table) -> Result<(), SinkFailed>
 
 /// Puts the lines of all rows.
 fn put_rows<S: Sink>(sink: &mut S, table: &Table) -> Result<(), SinkFailed>
-    ensures bytes { Takes (S.taken sink.old) (spec.row_lines table.now) (S.taken sink.new) result }
+    ensures bytes { Takes (S.taken sink.old) (spec.row_lines table.now.rows) (S.taken sink.new) result }
     ensures cause { PutCounts (S.faults sink.old) (S.faults sink.new) result }
 {
     let mut rows = table.rows();
@@ -110,7 +110,7 @@ fn put_fields<'a, S: Sink>(
 }
 
 /// What is known of X or Y: a number, or any.
-pub(crate) fn known_text(known: Option<u8>, buffer: &mut Buffer) -> &str
+pub(crate) fn known_text(known: Option<u16>, buffer: &mut Buffer) -> &str
     ensures { result.now ≡ spec.known_text known }
 {
     match known {

@@ -6,7 +6,7 @@
 --   verdict_line     the line of either
 use Rattle.std.specs.Prelude.{ℕ, ◌++◌, Bool, true, false, Option, Some, None, List, Result, Ok, Err, codes, decimal}
 use Rattle.span_step.specs.declared.cause.Cause.{Cause}
-use Rattle.span_step.specs.declared.cause.Cause.TheVariants.{U1, U2, U3, U4}
+use Rattle.span_step.specs.declared.cause.Cause.TheVariants.{U1, U2, U3, U4, U6}
 use Rattle.span_step.specs.Contexts.{Context}
 use Rattle.verdict_lines.specs.declared.refusal.Finding.{Finding}
 use Rattle.verdict_lines.specs.declared.refusal.Refusal.{Refusal}
@@ -37,15 +37,18 @@ cause_text U1 = codes "U1"
 cause_text U2 = codes "U2"
 cause_text U3 = codes "U3"
 cause_text U4 = codes "U4"
+cause_text U6 = codes "U6"
 
 -- the line of a span that is proved, with this word for whether it opens
 abbrev pub opening_line : (front name opens : List ℕ) → List ℕ
 opening_line front name opens = front ++ codes "span " ++ name ++ codes " proved opens " ++ opens ++ codes "\n"
 
--- of a prompt span, under which premise it is proved
-abbrev pub premise_text : (prompt : Bool) → List ℕ
-premise_text false = codes ""
-premise_text true = codes " under prompt"
+-- under which premises a span is proved: that its machine doesn't wait, and that its assumptions hold
+abbrev pub premise_text : (prompt assumes : Bool) → List ℕ
+premise_text false false = codes ""
+premise_text true false = codes " under prompt"
+premise_text false true = codes " under assume"
+premise_text true true = codes " under prompt, assume"
 
 -- the same with a word for whether it closes, and the premise
 abbrev pub closing_line : (front name opens closes premise : List ℕ) → List ℕ
@@ -59,7 +62,7 @@ line_by front name opens premise (Some closes) = closing_line front name opens (
 
 -- the line of a span that is proved
 abbrev pub proved_line : (front name : List ℕ) → Finding → List ℕ
-proved_line front name f = line_by front name (yes_text f.opens) (premise_text f.prompt) f.closes
+proved_line front name f = line_by front name (yes_text f.opens) (premise_text f.prompt f.assumes) f.closes
 
 -- the line of a bad context, with these words for what is known of it
 abbrev pub context_line : (front name : List ℕ) → (address : ℕ) → (x y levels cause : List ℕ) → List ℕ

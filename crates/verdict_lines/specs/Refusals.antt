@@ -20,16 +20,21 @@ is_any_edge (Some Level) named = length named == 0
 is_any_edge (Some Direction) named = false
 is_any_edge None named = false
 
+-- a span assumes something
+abbrev pub assumes : Span → Bool
+assumes sp = not (length sp.assume == 0)
+
 -- A span has no greatest bound, or an event that isn't any edge of a level, or says nothing of some from-events: of such a
 -- one it is told whether it closes, since it may be proved where nothing ends it.
 abbrev pub says_more : Span → Bool
 says_more sp =
-    (((not (is_bounded sp) || not (is_any_edge sp.from_signal sp.from_at)) || not (is_any_edge sp.to_signal sp.to_at)) || sp.prompt)
-    || not (length sp.without == 0)
+    ((((not (is_bounded sp) || not (is_any_edge sp.from_signal sp.from_at)) || not (is_any_edge sp.to_signal sp.to_at)) || sp.prompt)
+    || not (length sp.without == 0))
+    || assumes sp
 
--- whether the span opens, where it says more whether it closes, and whether it is prompt
+-- whether the span opens, where it says more whether it closes, and under which premises
 abbrev pub finding_of : Span → (opens closes : Bool) → Finding
-finding_of sp opens closes = record { opens = opens; closes = if says_more sp then Some closes else None; prompt = sp.prompt }
+finding_of sp opens closes = record { opens = opens; closes = if says_more sp then Some closes else None; prompt = sp.prompt; assumes = assumes sp }
 
 -- what the line of a proved span says, or why it isn't proved
 abbrev pub found_by : Span → Verdict → Result Finding Refusal

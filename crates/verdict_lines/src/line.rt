@@ -37,7 +37,7 @@ fn put_proved<S: Sink>(sink: &mut S, name: &[u8], finding: Finding) -> Result<()
             name,
             yes_text(finding.opens),
             yes_text(closes),
-            premise_text(finding.prompt),
+            premise_text(finding.prompt, finding.assumes),
         ),
     }
 }
@@ -190,7 +190,7 @@ fn put_shared<S: Sink>(
 }
 
 /// What is known of X or Y: a number, or any.
-fn known_text(known: Option<u8>, buffer: &mut Buffer) -> &str
+fn known_text(known: Option<u16>, buffer: &mut Buffer) -> &str
     ensures { result.now ≡ spec.known_text known }
 {
     match known {
@@ -218,11 +218,16 @@ fn yes_text(is_so: bool) -> &'static str
     if is_so { "yes" } else { "no" }
 }
 
-/// Under which premise a span is proved.
-fn premise_text(prompt: bool) -> &'static str
-    ensures { result.now ≡ spec.premise_text prompt }
+/// Under which premises a span is proved.
+fn premise_text(prompt: bool, assumes: bool) -> &'static str
+    ensures { result.now ≡ spec.premise_text prompt assumes }
 {
-    if prompt { " under prompt" } else { "" }
+    match (prompt, assumes) {
+        (false, false) => "",
+        (true, false) => " under prompt",
+        (false, true) => " under assume",
+        (true, true) => " under prompt, assume",
+    }
 }
 
 /// The code of a cause.
@@ -234,5 +239,6 @@ fn cause_text(cause: Cause) -> &'static str
         Cause::U2 => "U2",
         Cause::U3 => "U3",
         Cause::U4 => "U4",
+        Cause::U6 => "U6",
     }
 }

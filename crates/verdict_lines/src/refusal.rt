@@ -16,6 +16,8 @@ pub struct Finding {
     pub closes: Option<bool>,
     /// Whether nothing is said of a from-edge after which the machine waits.
     pub prompt: bool,
+    /// Whether nothing is said once X or Y isn't as the span assumes.
+    pub assumes: bool,
 }
 
 /// Why a span isn't proved.
@@ -42,6 +44,7 @@ pub fn found_by(verdict: Verdict, span: &Span) -> Result<Finding, Refusal>
                 opens,
                 closes: if says_more(span) { Some(closes) } else { None },
                 prompt: span.prompt,
+                assumes: assumes(span),
             })
         }
         Verdict::Unproved(context, cause) => Err(Refusal::Unproved(context, cause)),
@@ -58,6 +61,14 @@ fn says_more(span: &Span) -> bool
         || !is_any_edge(span.to_signal, &span.to_at)
         || span.prompt
         || !span.without.as_slice().is_empty()
+        || assumes(span)
+}
+
+/// Whether a span assumes something.
+fn assumes(span: &Span) -> bool
+    ensures { result ≡ spec.assumes span.now }
+{
+    !span.assume.as_slice().is_empty()
 }
 
 /// Whether an event is an edge of a level that any instruction may make.

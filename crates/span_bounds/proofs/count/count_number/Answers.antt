@@ -3,4 +3,4 @@ use Rattle.span_bounds.proofs.Counts.{Count-skips}
 use Rattle.span_bounds.proofs.count.count_number.Goals as goal
 
 pub returns-in-Absent-clause-value : goal.returns-in-Absent-clause-value
-returns-in-Absent-clause-value g c = Count-skips _ _ _ _ _ _ (sym c.in-Absent.ensures.value) c.requires.before
+returns-in-Absent-clause-value g c = Count-skips _ _ _ _ _ _ (sym c.in-Absent.ensures) c.requires.before

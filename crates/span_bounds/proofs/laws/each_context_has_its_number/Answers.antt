@@ -1,5 +1,4 @@
-use Rattle.span_bounds.proofs.Members.{number_below}
-use Rattle.span_bounds.proofs.Placing.{number_of-context_at, context_at-number_of}
+use Rattle.span_bounds.proofs.Placing.{number_below, number_of-context_at, context_at-number_of}
 use Rattle.span_bounds.proofs.laws.each_context_has_its_number.Goals as goal
 
 pub returns-clause-below : goal.returns-clause-below

@@ -14,6 +14,7 @@ returns c = record {
       places_go_on = c.each_place_goes_its_own_way.ensures.after;
       own_pins = c.a_pin_of_one_machine.ensures.level;
       excused = c.a_plain_span_excuses_nothing.ensures.excused;
+      misses = c.a_plain_span_excuses_nothing.ensures.misses;
       stimulus = c.a_stimulus_is_a_system.ensures.run;
       memory = c.clocks_are_counted.ensures.memory;
     };

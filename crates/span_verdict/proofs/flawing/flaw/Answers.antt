@@ -1,4 +1,5 @@
 use Rattle.std.proofs.Common.{rules, ◌≡◌, true, false, Some, None, List, sym, ap, ◌∙◌}
+use Rattle.pin_matrix.specs.Followed.{followed}
 use Rattle.span_step.specs.declared.ages.Ages.TheVariants.{Empty}
 use Rattle.span_bounds.specs.declared.row.Row.{Row}
 use Rattle.span_bounds.specs.Tables.{start_context}
@@ -11,19 +12,19 @@ pub returns-then-has_start-clause-none : goal.returns-then-has_start-clause-none
 returns-then-has_start-clause-none c =
     let u = c.args.setup.now in
     let sp = c.args.span.now in
-    let t = c.args.table.now in
-    let start : lies_in t (start_context u sp) Empty ≡ true = sym c.has_start.ensures ∙ c.if-has_start.true in
+    let t = c.args.table.now.rows in
+    let start : lies_in (followed sp) t (start_context u sp) Empty ≡ true = sym c.has_start.ensures.value ∙ c.if-has_start.true in
     let flaw : c.rows_flaw.result ≡ rows_flaw u sp t t =
     c.rows_flaw.ensures ∙ ap (λ (rs : List Row). rows_flaw u sp t rs) c.rows-rows.ensures.rows in
-    (λ h. flawless u sp t start (sym flaw ∙ h), λ h. flaw ∙ no_flaw u sp t h)
+    (λ h. flawless u sp t start (sym flaw ∙ h), λ h. flaw ∙ no_flaw u sp t (rw (← c.requires.follow) c.rows-rows.ensures.table) h)
 
 pub returns-else-has_start-clause-none : goal.returns-else-has_start-clause-none
 returns-else-has_start-clause-none c =
     let u = c.args.setup.now in
     let sp = c.args.span.now in
-    let t = c.args.table.now in
-    let start : lies_in t (start_context u sp) Empty ≡ false = sym c.has_start.ensures ∙ c.if-has_start.false in
-    (λ h. absurd (none h), λ h. absurd (unstarted u sp t start h)) where
+    let t = c.args.table.now.rows in
+    let start : lies_in (followed sp) t (start_context u sp) Empty ≡ false = sym c.has_start.ensures.value ∙ c.if-has_start.false in
+    (λ h. absurd (none h), λ h. absurd (unstarted u sp t c.has_start.ensures.placed start h)) where
       none : {A : Type 0} {x : A} → Some x ≡ None → ⊥
       none e = cc
 

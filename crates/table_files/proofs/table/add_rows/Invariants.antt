@@ -8,9 +8,10 @@ use Rattle.table_files.proofs.table.add_rows.Given as goal
 -- the rows so far, and what the lines that are left add to them
 abbrev pub invariant-loop-rest : goal.invariant-loop-rest
 invariant-loop-rest l = record {
-  whole : going_from l.table l.number l.least (lines_left (option_copied l.rest)) ≡ rows_from 2 0 (lines_of l.text);
-  below : AllBelow l.least l.table;
-  near : l.least ≤ 139392;
+  whole : going_from l.follow l.table.rows l.number l.least (lines_left (option_copied l.rest)) ≡ rows_from l.follow 2 0 (lines_of l.text);
+  below : AllBelow l.follow l.least l.table.rows;
+  same : l.table.follow ≡ l.follow;
+  old : l.follow ≡ l.fn.table.follow;
   counted : l.number + left_size (option_copied l.rest) ≤ length l.text + 3;
 }
 

@@ -6,7 +6,7 @@ use Rattle.table_files.proofs.writing.put_rows.Given as goal
 -- the lines of the rows before those that are left were taken
 abbrev pub invariant-loop-row : goal.invariant-loop-row
 invariant-loop-row g l = record {
-  going : Going (g.S.Sink.taken l.fn.sink) (g.S.Sink.taken l.sink) (row_lines l.table) (row_lines l.rows);
+  going : Going (g.S.Sink.taken l.fn.sink) (g.S.Sink.taken l.sink) (row_lines l.table.rows) (row_lines l.rows);
   count : g.S.Sink.faults l.sink ≡ g.S.Sink.faults l.fn.sink;
 }
 

@@ -1,10 +1,16 @@
-use Rattle.std.proofs.Common.{◌≡◌, sym, ap, ◌∙◌, subst}
+use Rattle.std.proofs.Common.{◌≡◌, ℕ, ◌+◌, sym, ap, ◌∙◌, subst}
 use Rattle.dreq_pacing.specs.declared.due.Due.{Due}
 use Rattle.dreq_pacing.specs.Due.{quiet}
 use Rattle.block_core.specs.Block.{Run}
 use Rattle.block_core.specs.Conduct.{Told, conduct_after, is_noted, standings_in}
-use Rattle.block_core.proofs.Conducting.{after-note}
+use Rattle.block_core.proofs.Conducting.{after-note, clock_next}
 use Rattle.block_core.proofs.conduct.Conducted.quiet_clock.Goals as goal
+
+pub told-noted-requires-clause-clock : goal.told-noted-requires-clause-clock
+told-noted-requires-clause-clock g c =
+    ap (λ (r : Run). r.clock) c.quiet_clock-news.ensures.run
+    ∙ clock_next quiet c.self.inside.block.run
+    ∙ ap (λ (k : ℕ). k + 1) (ap (λ (t : Told). t.worked.run.clock) c.self.view_is ∙ c.requires.clock)
 
 pub returns-clause-last : goal.returns-clause-last
 returns-clause-last g c =

@@ -1,5 +1,6 @@
-use Rattle.span_bounds.proofs.Prefix.{length-padded}
+use Rattle.std.proofs.Common.{sym}
+use Rattle.span_bounds.proofs.Prefix.{length-written}
 use Rattle.span_bounds.proofs.grid.Grid.len.Goals as goal
 
-pub returns-clause-size : goal.returns-clause-size
-returns-clause-size c = rw (← c.self.view_is) (length-padded _ c.self.invariant.0)
+pub returns : goal.returns
+returns c = rw (← c.self.view_is) (sym (length-written _ _ _ c.self.invariant.0))

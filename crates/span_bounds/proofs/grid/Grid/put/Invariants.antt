@@ -5,9 +5,10 @@ use Rattle.span_bounds.proofs.grid.Grid.put.Given as goal
 -- the grid is the same while more of it is written
 abbrev pub invariant-loop-self : goal.invariant-loop-self
 invariant-loop-self l = record {
-  same : padded l.self-inside.entries.items ≡ l.fn.self;
-  few : length l.self-inside.entries.items ≤ 139392;
-  room : 139392 ≤ vec_capacity l.self-inside.entries;
+  size : l.self-inside.size ≡ l.initial.self-inside.size;
+  same : padded l.self-inside.size l.self-inside.entries.items ≡ l.fn.self;
+  few : length l.self-inside.entries.items ≤ l.self-inside.size;
+  room : l.self-inside.size ≤ vec_capacity l.self-inside.entries;
 }
 
 abbrev pub decreases-loop-self : goal.decreases-loop-self
