@@ -21,6 +21,7 @@ pub mod TwinRows
 pub mod InsideRows
 pub mod Insides
 pub mod Showing
+pub mod TickNumbers
 mod Resting
 mod Conducting
 mod ConductRows

@@ -1,9 +1,7 @@
--- The clock in which the last tick of a delay comes: a divider's next tick by its number, and what a clock adds to it.
-use Rattle.std.proofs.Common.{◌≡◌, ℕ, zero, suc, ◌+◌, ◌-◌, ◌*◌, ◌/◌, ◌%◌, ◌<◌, ◌≤◌, max, Bool, true, false, IsTrue, ◌==◌, ◌&&◌, Option, Some, None, cond, nat_lt, nat_le, slice_index_or, refl, sym, ap, ◌∙◌, inl, inr, add-zero, arith}
-use Rattle.std.proofs.lemmas.Bool.{cases_lt, or_parts}
+-- The clock in which the last tick of a delay comes, by the numbers of ticks.
+use Rattle.std.proofs.Common.{◌≡◌, ℕ, zero, suc, ◌+◌, ◌-◌, ◌*◌, ◌/◌, ◌<◌, max, Bool, true, false, IsTrue, ◌==◌, ◌&&◌, Option, Some, None, cond, nat_lt, nat_le, slice_index_or, refl, sym, ap, ◌∙◌, add-zero, arith}
+use Rattle.std.proofs.lemmas.Bool.{or_parts}
 use Rattle.std.proofs.lemmas.Bool.Decides.{nat_tests}
-use Rattle.std.proofs.lemmas.Nat.{div-add-mod', div-mul-add, mod_below}
-use Rattle.std.proofs.Math.Nat.{add-mul}
 use Rattle.clock_divider.specs.Ticks.{is_tick, tick_count}
 use Rattle.clock_divider.specs.Timing.{Timing, stepped}
 use Rattle.pin_matrix.specs.declared.machine.MachineSetup.{MachineSetup}
@@ -16,97 +14,7 @@ use Rattle.sm_registers.specs.View.{View}
 use Rattle.dreq_pacing.specs.declared.due.Due.{Due}
 use Rattle.block_core.specs.Conduct.{clock_of_tick, is_broken_by, is_lined_by, next_tick, period_in, rests_in}
 use Rattle.block_core.specs.Slots.{Slot, acted, has_tick, lined, settled_slot, slot_after}
-
--- the number of the next tick, so many clocks after the restart
-abbrev number : (period elapsed : ℕ) → ℕ
-number period elapsed = (elapsed * 256 + (period - 1)) / period
-
--- its time isn't before the clock, and less than a period after the clock's start
-not_before : (period elapsed : ℕ) → 256 ≤ period → elapsed * 256 ≤ number period elapsed * period
-not_before period elapsed wide =
-    let time = elapsed * 256 + (period - 1) in
-    let split : time / period * period + time % period ≡ time = div-add-mod' time period in
-    let small : time % period < period = mod_below time period (omega arith) in
-    omega arith
-
-soon_after : (period elapsed : ℕ) → 256 ≤ period → number period elapsed * period < elapsed * 256 + period
-soon_after period elapsed wide =
-    let time = elapsed * 256 + (period - 1) in
-    let split : time / period * period + time % period ≡ time = div-add-mod' time period in
-    omega arith
-
--- where each clock is a tick
-each_clock : (period elapsed : ℕ) → period < 256 → (elapsed * 256 + (period - 1)) / period * period < (elapsed + 1) * 256
-each_clock zero elapsed short = omega arith
-each_clock (suc n) elapsed short =
-    let time = elapsed * 256 + (suc n - 1) in
-    let split : time / suc n * suc n + time % suc n ≡ time = div-add-mod' time (suc n) in
-    omega arith
-
--- a clock from the restart on is a tick where the next tick's time is within it
-tick_within : (period elapsed : ℕ) → nat_lt ((elapsed * 256 + (period - 1)) / period * period) ((elapsed + 1) * 256) ≡ nat_lt (number (max 256 period) elapsed * max 256 period) ((elapsed + 1) * 256)
-tick_within period elapsed =
-    elim (cases_lt period 256) [
-      | inl short ↦
-          let least : max 256 period ≡ 256 = omega arith in
-          let once = each_clock period elapsed short in
-          let there = soon_after 256 elapsed (omega arith) in
-          let left : nat_lt ((elapsed * 256 + (period - 1)) / period * period) ((elapsed + 1) * 256) ≡ true = grind (arith, nat_tests) in
-          let right : nat_lt (number 256 elapsed * 256) ((elapsed + 1) * 256) ≡ true = grind (arith, nat_tests) in
-          left ∙ sym (ap (λ (p : ℕ). nat_lt (number p elapsed * p) ((elapsed + 1) * 256)) least ∙ right)
-      | inr wide ↦
-          let own : max 256 period ≡ period = omega arith in
-          sym (ap (λ (p : ℕ). nat_lt (number p elapsed * p) ((elapsed + 1) * 256)) own)
-    ]
-
-tick_is : (restarted period clock : ℕ) → restarted ≤ clock → is_tick restarted period clock ≡ nat_lt (number (max 256 period) (clock - restarted) * max 256 period) ((clock - restarted + 1) * 256)
-unfolding is_tick
-tick_is restarted period clock begun =
-    let after : nat_le restarted clock ≡ true = grind (arith, nat_tests) in
-    rw after (tick_within period (clock - restarted))
-
-none_before : (restarted period clock : ℕ) → clock < restarted → is_tick restarted period clock ≡ false
-unfolding is_tick
-none_before restarted period clock early =
-    let before : nat_le restarted clock ≡ false = grind (arith, nat_tests) in
-    rw before refl
-
--- a clock more: after a tick the next one has the next number
-next_number : (period elapsed : ℕ) → 256 ≤ period → number period (elapsed + 1) ≡ number period elapsed + cond (nat_lt (number period elapsed * period) ((elapsed + 1) * 256)) 1 0
-next_number period elapsed wide =
-    let low = not_before period elapsed wide in
-    let high = soon_after period elapsed wide in
-    elim (cases_lt (number period elapsed * period) ((elapsed + 1) * 256)) [
-      | inl ticks ↦
-          let rest = (elapsed + 1) * 256 - 1 - number period elapsed * period in
-          let more = add-mul 1 (number period elapsed) period in
-          let parts : (elapsed + 1) * 256 + (period - 1) ≡ (1 + number period elapsed) * period + rest = omega arith in
-          let yes : nat_lt (number period elapsed * period) ((elapsed + 1) * 256) ≡ true = grind (arith, nat_tests) in
-          ap (λ (n : ℕ). n / period) parts
-          ∙ div-mul-add (1 + number period elapsed) period rest (omega arith)
-          ∙ rw yes (omega arith)
-      | inr waits ↦
-          let rest = (elapsed + 1) * 256 + (period - 1) - number period elapsed * period in
-          let parts : (elapsed + 1) * 256 + (period - 1) ≡ number period elapsed * period + rest = omega arith in
-          let no : nat_lt (number period elapsed * period) ((elapsed + 1) * 256) ≡ false = grind (arith, nat_tests) in
-          ap (λ (n : ℕ). n / period) parts
-          ∙ div-mul-add (number period elapsed) period rest (omega arith)
-          ∙ rw no (omega arith)
-    ]
-
-number_more : (restarted period clock : ℕ) → number (max 256 period) (clock + 1 - restarted) ≡ number (max 256 period) (clock - restarted) + cond (is_tick restarted period clock) 1 0
-number_more restarted period clock =
-    elim (cases_lt clock restarted) [
-      | inl early ↦
-          let now : clock - restarted ≡ 0 = omega arith in
-          let then : clock + 1 - restarted ≡ 0 = omega arith in
-          rw (now, then, none_before restarted period clock early) (omega arith)
-      | inr begun ↦
-          let one : clock + 1 - restarted ≡ clock - restarted + 1 = omega arith in
-          ap (number (max 256 period)) one
-          ∙ next_number (max 256 period) (clock - restarted) (omega arith)
-          ∙ ap (λ (b : Bool). number (max 256 period) (clock - restarted) + cond b 1 0) (sym (tick_is restarted period clock begun))
-    ]
+use Rattle.block_core.proofs.TickNumbers.{clock_of, number, number_more}
 
 -- some clocks more: their ticks are counted
 numbers_more : (restarted period clock n : ℕ) → number (max 256 period) (clock + n - restarted) ≡ number (max 256 period) (clock - restarted) + tick_count restarted period clock n
@@ -118,24 +26,6 @@ numbers_more restarted period clock (suc n) =
     ∙ number_more restarted period (clock + n)
     ∙ ap (λ (k : ℕ). k + cond (is_tick restarted period (clock + n)) 1 0) (numbers_more restarted period clock n)
     ∙ omega arith
-
--- a tick is in the clock of its number
-clock_of : (restarted period clock : ℕ) → IsTrue (is_tick restarted period clock) → restarted + number (max 256 period) (clock - restarted) * max 256 period / 256 ≡ clock
-clock_of restarted period clock ticks =
-    elim (cases_lt clock restarted) [
-      | inl early ↦ absurd (let no = none_before restarted period clock early in cc)
-      | inr begun ↦
-          let p = max 256 period in
-          let elapsed = clock - restarted in
-          let low = not_before p elapsed (omega arith) in
-          let within : nat_lt (number p elapsed * p) ((elapsed + 1) * 256) ≡ true = sym (tick_is restarted period clock begun) ∙ ticks in
-          let high : number p elapsed * p < (elapsed + 1) * 256 = grind (arith, nat_tests) in
-          let rest = number p elapsed * p - elapsed * 256 in
-          let parts : number p elapsed * p ≡ elapsed * 256 + rest = omega arith in
-          ap (λ (n : ℕ). restarted + n / 256) parts
-          ∙ ap (λ (n : ℕ). restarted + n) (div-mul-add elapsed 256 rest (omega arith))
-          ∙ omega arith
-    ]
 
 -- The clock that is a tick, with so many before it from the present one on, is that of its number.
 pub tick-later : (t : Timing) (n clocks : ℕ) → IsTrue (is_tick t.restarted t.period (t.clock + clocks)) → tick_count t.restarted t.period t.clock clocks ≡ n → t.clock + clocks ≡ clock_of_tick t n

@@ -5,7 +5,9 @@
 --   is_assumption        an assumption that a span may have
 --   are_assumptions      all that a span may have
 --   follow_of            how far X and Y are followed
-use Rattle.std.specs.Prelude.{ℕ, ◌+◌, ◌-◌, ◌*◌, ◌/◌, ◌^◌, min, max, nat_le, nat_lt, ◌&&◌, Bool, true, Option, Some, None, List, length, fold}
+--   is_in, is_within     a number is in a range, or where it is assumed to be
+--   keeps                an instruction leaves X and Y as assumed
+use Rattle.std.specs.Prelude.{ℕ, ◌+◌, ◌-◌, ◌*◌, ◌/◌, ◌^◌, ◌==◌, min, max, nat_le, nat_lt, not, ◌&&◌, ◌||◌, Bool, true, Option, Some, None, List, length, fold}
 use Rattle.std.specs.List.{list_all}
 use Rattle.pin_matrix.specs.declared.assume.Assumption.{Assumption}
 use Rattle.pin_matrix.specs.declared.assume.Follow.{Follow}
@@ -69,3 +71,16 @@ usual_beside other = min (most_pairs / (other + 2) - 2) 31
 -- other one's. Without ranges both are followed up to 31.
 unfoldable pub follow_of : List Assumption → Follow
 follow_of items = record { x = max (most_x items) (usual_beside (most_y items)); y = max (most_y items) (usual_beside (most_x items)) }
+
+-- a number is in a range
+abbrev pub is_in : Range → ℕ → Bool
+is_in r n = nat_le r.lo n && nat_le n r.hi
+
+-- a number is where it is assumed to be
+abbrev pub is_within : Option Range → ℕ → Bool
+is_within None n = true
+is_within (Some r) n = is_in r n
+
+-- The instruction at an address leaves these in X and Y, and so as assumed: as each assumption says that is of it.
+abbrev pub keeps : List Assumption → (address x y : ℕ) → Bool
+keeps items address x y = list_all (λ a. not (a.address == address) || (is_within a.x x && is_within a.y y)) items

@@ -16,7 +16,8 @@ use Rattle.span_step.specs.declared.stepped.Next.{Next}
 use Rattle.span_step.specs.declared.stepped.Stepped.{Stepped}
 use Rattle.span_step.specs.Contexts.{is_small}
 use Rattle.span_step.specs.Laws.{AllPlaced}
-use Rattle.span_step.specs.Narrowing.{all_narrowed, is_in, kept, knowing, narrowed, nexts_of, numbers_in}
+use Rattle.pin_matrix.specs.Assumptions.{is_in}
+use Rattle.span_step.specs.Narrowing.{all_narrowed, kept, knowing, narrowed, nexts_of, numbers_in}
 use Rattle.span_step.specs.Steps.{context_steps}
 use Rattle.span_bounds.specs.Numbers.{contexts_of, context_at, known_number, level_number}
 use Rattle.span_bounds.specs.Edges.{nexts_at, spot}

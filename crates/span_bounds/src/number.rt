@@ -19,6 +19,7 @@ pub(crate) fn contexts_of(span: &Span) -> usize
     ensures value { result ≡ spec.contexts_of span.now }
     ensures fits { result ≤ 2 ^ 24 }
 {
+    // A clause of this call, `kept`, bounds the pairs of X and Y.
     let _kept = span.assume.as_slice();
     contexts(span.assume.follow())
 }

@@ -9,7 +9,7 @@ use Rattle.dreq_pacing.specs.declared.due.Due.{Due}
 use Rattle.block_core.specs.Slots.{Slot}
 use Rattle.block_core.specs.Block.{BlockState}
 use Rattle.block_core.specs.Following.{intent_in, place_at}
-use Rattle.span_step.specs.Narrowing.{is_within}
+use Rattle.pin_matrix.specs.Assumptions.{is_within}
 use Rattle.span_step.specs.Steps.{is_event, is_named, is_left_out}
 use Rattle.span_ticks.specs.Following.{finishes, works}
 use Rattle.span_ticks.specs.UnderWay.{stands_before, flow_of}

@@ -23,7 +23,7 @@ use Rattle.block_core.specs.Block.{BlockState, view_of}
 use Rattle.block_core.specs.Following.{place_at, intent_in}
 use Rattle.span_step.specs.declared.ages.Ages.{Ages}
 use Rattle.span_step.specs.Contexts.{Context}
-use Rattle.span_step.specs.Narrowing.{keeps}
+use Rattle.pin_matrix.specs.Assumptions.{keeps}
 use Rattle.span_step.specs.Steps.{bounds_of, is_bounded}
 use Rattle.span_ticks.specs.Rows.{IsSoundTable}
 use Rattle.span_ticks.specs.UnderWay.{Flow, Watch, IsUnderWay, flow_of, is_excused_in}
@@ -205,12 +205,12 @@ module _ (laws : Laws) (u : Setup) (sp : Span) (rows : Context → Option Ages) 
       let act = acted v (lined d m) in
       let there : place_at after sp.machine ≡ Some (slot_after v d m) = h.place ∙ ap (place_after v d) g.slot in
       let rests : is_rested (place_at after sp.machine) ≡ (act.0.delay == 0) = ap is_rested there in
-      let so : keeps_at sp m.machine.registers.pc (place_at after sp.machine) ≡ keeps sp m.machine.registers.pc act.0.x act.0.y = ap (keeps_at sp m.machine.registers.pc) there in
+      let so : keeps_at sp m.machine.registers.pc (place_at after sp.machine) ≡ keeps sp.assume m.machine.registers.pc act.0.x act.0.y = ap (keeps_at sp m.machine.registers.pc) there in
       record {
         m = slot_after v d m;
         w = step.after;
         keeps = kept_after sp kept m.machine.registers.pc act;
-        misses = λ e. rw (intent, pc, plain, so) (missed (finishes (works act.1.kind None) act.1.stalled) (keeps sp m.machine.registers.pc act.0.x act.0.y) kept e);
+        misses = λ e. rw (intent, pc, plain, so) (missed (finishes (works act.1.kind None) act.1.stalled) (keeps sp.assume m.machine.registers.pc act.0.x act.0.y) kept e);
         going = λ stays. record {
           slot = there;
           setup = g.setup;

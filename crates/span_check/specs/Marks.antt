@@ -16,7 +16,7 @@ use Rattle.block_core.specs.Slots.{Slot}
 use Rattle.block_core.specs.Block.{BlockState}
 use Rattle.block_core.specs.Edges.{has_edge}
 use Rattle.block_core.specs.Following.{place_at, intent_in}
-use Rattle.span_step.specs.Narrowing.{keeps}
+use Rattle.pin_matrix.specs.Assumptions.{keeps}
 use Rattle.span_step.specs.Steps.{is_event}
 use Rattle.span_ticks.specs.Following.{finishes, works}
 use Rattle.span_ticks.specs.UnderWay.{flow_of, is_excused_in}
@@ -72,7 +72,7 @@ excused_at sp (Some m) = is_excused_in sp (flow_of m.machine.registers)
 -- what a place has in X and Y is as the span assumes after the instruction at an address
 abbrev pub keeps_at : Span → (address : ℕ) → Option Slot → Bool
 keeps_at sp address None = true
-keeps_at sp address (Some m) = keeps sp address m.machine.registers.x m.machine.registers.y
+keeps_at sp address (Some m) = keeps sp.assume address m.machine.registers.x m.machine.registers.y
 
 -- no delay is left at a place
 abbrev pub is_rested : Option Slot → Bool

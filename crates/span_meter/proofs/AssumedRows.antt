@@ -7,7 +7,8 @@ use Rattle.block_core.specs.declared.conduct.Conduct.{Conduct}
 use Rattle.block_core.specs.declared.conduct.MachineConduct.{MachineConduct}
 use Rattle.span_meter.specs.declared.pins.ShownPins.{ShownPins}
 use Rattle.span_meter.specs.declared.seen.SeenDistances.{SeenDistances}
-use Rattle.span_meter.specs.Assumed.{assumed_from, assumed_up_to, keeps, misses, spoken_seen}
+use Rattle.pin_matrix.specs.Assumptions.{keeps}
+use Rattle.span_meter.specs.Assumed.{assumed_from, assumed_up_to, misses, spoken_seen}
 use Rattle.span_meter.specs.Events.{SpanEvent, SpanEvents, marks}
 use Rattle.span_meter.specs.SeenText.{seen_line}
 use Rattle.span_meter.specs.Spoken.{clocks_to_spoken, spoken}

@@ -1,5 +1,4 @@
 -- Up to where a run keeps what a span assumes of X and Y, by what the machines did, and what the span measures up to there.
---   keeps              an instruction leaves X and Y as assumed
 --   misses             the machine finishes one that doesn't
 --   nothing_missed     what is known before the first clock
 --   assumed_after      what is known after one clock more
@@ -8,10 +7,9 @@
 --   assumed_up_to      the clock in which that comes
 --   marks_before       the marks of the clocks before it
 --   spoken_seen        what a span measures in them
-use Rattle.std.specs.Prelude.{ℕ, suc, ◌==◌, Bool, true, false, not, ◌&&◌, ◌||◌, Option, Some, None, option_map, List, [], ◌∷◌, length, max, nat_le, nat_lt, take, if◌then◌else◌}
-use Rattle.std.specs.List.{list_all}
+use Rattle.std.specs.Prelude.{ℕ, suc, Bool, false, not, ◌&&◌, ◌||◌, Option, Some, None, option_map, List, [], ◌∷◌, length, max, nat_lt, take, if◌then◌else◌}
+use Rattle.pin_matrix.specs.Assumptions.{keeps}
 use Rattle.pin_matrix.specs.declared.assume.Assumption.{Assumption}
-use Rattle.pin_matrix.specs.declared.assume.Range.{Range}
 use Rattle.block_core.specs.declared.conduct.Conduct.{Conduct}
 use Rattle.block_core.specs.declared.conduct.MachineConduct.{MachineConduct}
 use Rattle.span_meter.specs.declared.assumed.Assumed.{Assumed}
@@ -20,15 +18,6 @@ use Rattle.span_meter.specs.declared.seen.SeenDistances.{SeenDistances}
 use Rattle.span_meter.specs.Events.{SpanEvents, conduct_of, marks}
 use Rattle.span_meter.specs.Measured.{seen_of}
 use Rattle.span_meter.specs.Spoken.{Mark, spoken}
-
--- a number is where it is assumed to be
-abbrev pub is_within : Option Range → ℕ → Bool
-is_within None n = true
-is_within (Some r) n = nat_le r.lo n && nat_le n r.hi
-
--- the instruction at an address leaves these in X and Y, and so as assumed: as each assumption says that is of it
-abbrev pub keeps : List Assumption → (address x y : ℕ) → Bool
-keeps assume address x y = list_all (λ a. not (a.address == address) || (is_within a.x x && is_within a.y y)) assume
 
 -- the machine finishes the instruction in memory at its PC, and leaves X or Y otherwise than assumed
 abbrev pub misses : List Assumption → MachineConduct → Bool

@@ -1,5 +1,6 @@
 //! What is known of what a span assumes of X and Y, clock by clock.
 ghost use Rattle.std.specs.Prelude.{◌≡◌, ◌+◌};
+ghost use Rattle.pin_matrix.specs.Assumptions as assumptions;
 ghost use Rattle.span_meter.specs.Assumed as spec;
 ghost use Rattle.span_meter.specs.SpokenMeters.{clocks_gone};
 
@@ -83,13 +84,13 @@ fn misses(assume: &[Assumption], did: &MachineConduct) -> bool
 
 /// Whether the instruction at an address that leaves these in X and Y leaves them as assumed.
 fn keeps(assume: &[Assumption], address: u8, x: u32, y: u32) -> bool
-    ensures { result ≡ spec.keeps assume.now address x y }
+    ensures { result ≡ assumptions.keeps assume.now address x y }
 {
     assume.iter().all(|a| !(a.address == address) || (is_within(a.x, x) && is_within(a.y, y)))
 }
 
 fn is_within(range: Option<Range>, number: u32) -> bool
-    ensures { result ≡ spec.is_within range number }
+    ensures { result ≡ assumptions.is_within range number }
 {
     match range {
         Some(range) => u32::from(range.lo) <= number && number <= u32::from(range.hi),

@@ -12,7 +12,7 @@ use Rattle.sm_registers.proofs.Ticks.{in_delay, rest_delay}
 use Rattle.dreq_pacing.specs.declared.due.Due.{Due}
 use Rattle.block_core.specs.Conduct.{clock_of_tick, is_broken_by, is_lined_by, rests_in}
 use Rattle.block_core.specs.Slots.{Slot, acted, has_tick, lined, settled_slot, slot_after}
-use Rattle.span_seen.proofs.Ticks.{not_past, tick_now, tick_over, tick_waits}
+use Rattle.block_core.proofs.TickNumbers.{not_past, tick_now, tick_over, tick_waits}
 
 -- no delay is left
 abbrev pub is_at_rest : Slot → Bool

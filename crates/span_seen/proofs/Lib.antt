@@ -1,4 +1,3 @@
-mod Ticks
 mod Delays
 pub mod Staying
 pub mod Telling

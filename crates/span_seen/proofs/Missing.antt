@@ -1,8 +1,6 @@
 -- What is told of a clock says whether the machine misses what a span assumes in it, and when its delay is over.
-use Rattle.std.proofs.Common.{◌≡◌, ℕ, ◌==◌, Bool, true, false, cond, not, ◌&&◌, ◌||◌, Option, Some, None, List, [], ◌∷◌, refl, sym, ap, ap₂, subst, ◌∙◌}
-use Rattle.std.specs.List.{list_all}
-use Rattle.pin_matrix.specs.declared.assume.Assumption.{Assumption}
-use Rattle.pin_matrix.specs.declared.assume.Range.{Range}
+use Rattle.std.proofs.Common.{◌≡◌, ℕ, Bool, true, false, cond, not, ◌&&◌, Option, Some, None, List, refl, sym, ap, ap₂, subst, ◌∙◌}
+use Rattle.pin_matrix.specs.Assumptions.{keeps}
 use Rattle.pin_matrix.specs.declared.span.Span.{Span}
 use Rattle.dreq_pacing.specs.declared.due.Due.{Due}
 use Rattle.block_core.specs.declared.conduct.Conduct.{Conduct}
@@ -12,25 +10,12 @@ use Rattle.block_core.specs.Block.{BlockState, Run, next, seen_in, view_of}
 use Rattle.block_core.specs.Conduct.{conduct_after, conduct_in, is_noted, machine_conduct, rests_in}
 use Rattle.block_core.specs.Following.{place_at}
 use Rattle.block_core.specs.Slots.{Slot, place_after, slot_after, slot_intent}
-use Rattle.span_step.specs.Narrowing as step
 use Rattle.span_ticks.specs.Following.{finishes, works}
 use Rattle.span_check.specs.Marks.{Mark, is_rested, keeps_at, mark_of}
-use Rattle.span_meter.specs.Assumed.{is_within, keeps, misses}
+use Rattle.span_meter.specs.Assumed.{misses}
 use Rattle.span_meter.specs.Events.{conduct_of}
 use Rattle.span_seen.proofs.Delays.{is_at_rest, left_in, stays_told}
 use Rattle.span_seen.proofs.Telling.{IsOwn, clock_mark, ends_same, is_quiet, none_ends, noted_machine, place_next}
-
--- both say the same of what an instruction leaves
-same_within : (o : Option Range) (n : ℕ) → is_within o n ≡ step.is_within o n
-same_within None n = refl
-same_within (Some r) n = refl
-
-same_keeps : (assume : List Assumption) (address x y : ℕ) → keeps assume address x y ≡ list_all (λ (a : Assumption). not (a.address == address) || (step.is_within a.x x && step.is_within a.y y)) assume
-same_keeps [] address x y = refl
-same_keeps (a ∷ assume) address x y =
-    ap₂ (λ (b c : Bool). b && c)
-    (ap₂ (λ (b c : Bool). not (a.address == address) || (b && c)) (same_within a.x x) (same_within a.y y))
-    (same_keeps assume address x y)
 
 -- the mark of a span whose machine this is
 own_misses : (sp : Span) (memory : List ℕ) (seen : ℕ) (d : Due) (b a : BlockState) (s : Slot) → place_at b sp.machine ≡ Some s
@@ -59,7 +44,7 @@ noted_misses sp d r s place =
     let after = slot_after v d s in
     let w = works i.kind s.machine.registers.pending in
     let keep : keeps sp.assume pc after.machine.registers.x after.machine.registers.y ≡ keeps_at sp pc (place_at (next d r).state sp.machine) =
-    same_keeps sp.assume pc after.machine.registers.x after.machine.registers.y ∙ ap (keeps_at sp pc) (sym (place_next d r sp.machine ∙ ap (place_after v d) place)) in
+    ap (keeps_at sp pc) (sym (place_next d r sp.machine ∙ ap (place_after v d) place)) in
     ap₂ (λ (b c : Bool). b && not c) (ends_same i.kind s.machine.registers.pending i.stalled) keep
     ∙ sym (own_misses sp r.memory (seen_in d r) d r.state (next d r).state s place)
 

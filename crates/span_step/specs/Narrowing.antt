@@ -1,6 +1,4 @@
 -- What can come next after a row, by what the span assumes of X and Y there, and by how far they are followed.
---   is_in            a number is in a range
---   keeps            an instruction leaves X and Y as the span assumes
 --   meet             what two ranges have in common
 --   assumed_at       the ranges in which X and Y are assumed to be after the instruction at an address
 --   followed_to      what is known, as far as it is followed
@@ -10,8 +8,9 @@
 --   nexts_of         what can come next after a row
 --   IsTurn           which turns the end at a place has
 --   is_unmet         nothing can, since X or Y is known to be outside its range
-use Rattle.std.specs.Prelude.{ℕ, ◌+◌, ◌-◌, ◌≤◌, ◌==◌, min, max, nat_le, Bool, true, not, ◌&&◌, ◌||◌, if◌then◌else◌, Option, Some, None, is_some, List, [], ◌∷◌, length, map, fold, flat_map, take, drop}
-use Rattle.std.specs.List.{list_all, list_any, range_with_len}
+use Rattle.std.specs.Prelude.{ℕ, ◌+◌, ◌-◌, ◌≤◌, ◌==◌, min, max, nat_le, Bool, not, ◌&&◌, if◌then◌else◌, Option, Some, None, is_some, List, [], ◌∷◌, length, map, fold, flat_map, take, drop}
+use Rattle.std.specs.List.{list_any, range_with_len}
+use Rattle.pin_matrix.specs.Assumptions.{is_in}
 use Rattle.pin_matrix.specs.Followed.{followed}
 use Rattle.pin_matrix.specs.declared.assume.Assumption.{Assumption}
 use Rattle.pin_matrix.specs.declared.assume.Range.{Range}
@@ -22,20 +21,6 @@ use Rattle.span_step.specs.declared.narrowing.Values.TheVariants.{One, Each}
 use Rattle.span_step.specs.declared.stepped.Next.{Next}
 use Rattle.span_step.specs.declared.stepped.Stepped.{Stepped}
 use Rattle.span_step.specs.Outcomes.{ContextOutcome}
-
--- a number is in a range
-abbrev pub is_in : Range → ℕ → Bool
-is_in r n = nat_le r.lo n && nat_le n r.hi
-
--- a number is where it is assumed to be
-abbrev pub is_within : Option Range → ℕ → Bool
-is_within None n = true
-is_within (Some r) n = is_in r n
-
--- The instruction at an address leaves these in X and Y, and so as the span assumes: as each assumption says that is of it.
-abbrev pub keeps : Span → (address x y : ℕ) → Bool
-keeps sp address x y =
-    list_all (λ a. not (a.address == address) || (is_within a.x x && is_within a.y y)) sp.assume
 
 -- what two ranges have in common, which may be nothing; where there is no range, the other one
 abbrev pub meet : Option Range → Option Range → Option Range

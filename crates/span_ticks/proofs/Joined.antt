@@ -18,7 +18,8 @@ use Rattle.span_step.specs.Contexts.{Context, is_placed, IsInside}
 use Rattle.span_step.specs.Outcomes.{ContextOutcome, may_stall}
 use Rattle.span_step.specs.Courses.{watched, followed, start, prompt, delayed, delay_tick, delay_ticks, over}
 use Rattle.span_step.specs.Laws.{AllPlaced}
-use Rattle.span_step.specs.Narrowing.{keeps, narrowing_after, nexts_of}
+use Rattle.pin_matrix.specs.Assumptions.{keeps}
+use Rattle.span_step.specs.Narrowing.{narrowing_after, nexts_of}
 use Rattle.span_step.specs.Steps.{visit_of, end_after, rules_of, side_of, bounds_of, is_bounded, is_named, is_left_out, is_excusing, context_steps}
 use Rattle.span_ticks.specs.Rows.{IsInRow, IsSoundTable}
 use Rattle.span_ticks.specs.UnderWay.{Watch, Flow, flow_of, is_excused_in, IsContextOf, IsAtRow, IsResting, IsBegun, IsUnderWay, op_at, rested, stalled_from}
@@ -94,21 +95,21 @@ prompt_clean u sp rows s k a o ends = clean_followed (rules_of s sp k.address) (
 kept_stalled : (sp : Span) (address : ℕ) (op : Op) (s : MachineSetup) (q : Queues) (r : Registers) (e : Effect) → e.stalled ≡ true → kept_after sp true address (tick_by op s q r e) ≡ true
 unfolding tick_by
 kept_stalled sp address op s q r e stalled =
-    ap (λ z. if z then keeps sp address (tick_by op s q r e).0.x (tick_by op s q r e).0.y else true) (and_no (works (if r.begun then Late else First) None) (not e.stalled) (ap not stalled))
+    ap (λ z. if z then keeps sp.assume address (tick_by op s q r e).0.x (tick_by op s q r e).0.y else true) (and_no (works (if r.begun then Late else First) None) (not e.stalled) (ap not stalled))
 
 tick_kind : (sp : Span) (address : ℕ) (op : Op) (s : MachineSetup) (q : Queues) (r : Registers) (e : Effect)
-    → kept_after sp true address (tick_by op s q r e) ≡ (if finishes (works (if r.begun then Late else First) None) e.stalled then keeps sp address (tick_by op s q r e).0.x (tick_by op s q r e).0.y else true)
+    → kept_after sp true address (tick_by op s q r e) ≡ (if finishes (works (if r.begun then Late else First) None) e.stalled then keeps sp.assume address (tick_by op s q r e).0.x (tick_by op s q r e).0.y else true)
 unfolding tick_by
 tick_kind sp address op s q r e = refl
 
 kept_done : (sp : Span) (address : ℕ) (op : Op) (s : MachineSetup) (q : Queues) (r : Registers) (e : Effect) (o : ContextOutcome) → r.pending ≡ None → address ≡ r.pc → e.stalled ≡ false → Explains sp e o
-    → kept_after sp true address (tick_by op s q r e) ≡ keeps sp address e.registers.x e.registers.y
+    → kept_after sp true address (tick_by op s q r e) ≡ keeps sp.assume address e.registers.x e.registers.y
 kept_done sp address op s q r e o pending here ends x =
     let done = flow_done op s sp q r e o address pending here ends x in
     finishing (tick_by op s q r e).0 r.begun e.stalled ends (tick_kind sp address op s q r e)
-    ∙ ap (λ (f : Flow). keeps sp address f.x f.y) done where
-      finishing : (t : Registers) (begun stalled : Bool) → stalled ≡ false → kept_after sp true address (tick_by op s q r e) ≡ (if finishes (works (if begun then Late else First) None) stalled then keeps sp address t.x t.y else true)
-          → kept_after sp true address (tick_by op s q r e) ≡ keeps sp address t.x t.y
+    ∙ ap (λ (f : Flow). keeps sp.assume address f.x f.y) done where
+      finishing : (t : Registers) (begun stalled : Bool) → stalled ≡ false → kept_after sp true address (tick_by op s q r e) ≡ (if finishes (works (if begun then Late else First) None) stalled then keeps sp.assume address t.x t.y else true)
+          → kept_after sp true address (tick_by op s q r e) ≡ keeps sp.assume address t.x t.y
       finishing t true true ends h = cc
       finishing t true false ends h = h
       finishing t false true ends h = cc
@@ -163,7 +164,7 @@ end_rests sp rows u s q r k a e o w here ends x met well stays =
     let end : Watch = followed (rules_of s sp k.address) (delay_ticks op.delay) w in
     let n : Next = end_after (visit_of s sp op k a) o end in
     let kept : Bool = kept_after sp true k.address (tick_by op s q r e) in
-    let says : kept ≡ keeps sp k.address e.registers.x e.registers.y = kept_done sp k.address op s q r e o here.pending here.agrees.address ends x in
+    let says : kept ≡ keeps sp.assume k.address e.registers.x e.registers.y = kept_done sp k.address op s q r e o here.pending here.agrees.address ends x in
     let done = flow_done op s sp q r e o k.address here.pending here.agrees.address ends x in
     subst (λ f. IsResting sp rows s kept f w) (sym done)
     (rests_after sp rows s kept k.address op.delay e.registers.x e.registers.y n w refl refl refl well.clean met

@@ -13,7 +13,8 @@ use Rattle.span_step.specs.declared.narrowing.Narrowing.{Narrowing}
 use Rattle.span_step.specs.declared.stepped.Next.{Next}
 use Rattle.span_step.specs.Contexts.{Context, is_placed}
 use Rattle.span_step.specs.Laws.{AllPlaced}
-use Rattle.span_step.specs.Narrowing.{is_in, is_within, keeps, meet, with_assumption, with_assumptions, narrowing_after, held, kept, knowing, narrowed}
+use Rattle.pin_matrix.specs.Assumptions.{is_in, is_within, keeps}
+use Rattle.span_step.specs.Narrowing.{meet, with_assumption, with_assumptions, narrowing_after, held, kept, knowing, narrowed}
 use Rattle.span_ticks.specs.Rows.{HasRow}
 use Rattle.span_ticks.specs.UnderWay.{Covers}
 use Rattle.span_ticks.proofs.Explained.{all_front}
@@ -151,7 +152,7 @@ narrow_by rows f w n x y within cx cy all =
     }
 
 -- the end of a course, with what an instruction leaves in X and Y that the span assumes
-pub narrow : (rows : Context → Option Ages) (sp : Span) (address : ℕ) (n : Next) (known other : Option ℕ) (x y : ℕ) → keeps sp address x y ≡ true → Covers known x → Covers other y
+pub narrow : (rows : Context → Option Ages) (sp : Span) (address : ℕ) (n : Next) (known other : Option ℕ) (x y : ℕ) → keeps sp.assume address x y ≡ true → Covers known x → Covers other y
     → AllByRecursion (IsAtRows rows (followed sp))
     (narrowed (narrowing_after sp address) (knowing n (held (narrowing_after sp address).follow.x (narrowing_after sp address).x known) (held (narrowing_after sp address).follow.y (narrowing_after sp address).y other)))
     → Narrow rows (followed sp) n x y

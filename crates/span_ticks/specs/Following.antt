@@ -9,6 +9,7 @@
 --   kept_after       the last instruction left X and Y as the span assumes
 --   IsFollowed       what comes of a tick
 use Rattle.std.specs.Prelude.{◌≡◌, ℕ, ◌+◌, ◌≤◌, ◌⊎◌, Bool, true, false, not, ◌&&◌, if◌then◌else◌, Option, Some, None, is_some, List, [], fold, unwrap_or}
+use Rattle.pin_matrix.specs.Assumptions.{keeps}
 use Rattle.pin_matrix.specs.declared.machine.MachineSetup.{MachineSetup}
 use Rattle.pin_matrix.specs.declared.setup.Setup.{Setup}
 use Rattle.pin_matrix.specs.declared.span.PinSignal.{PinSignal}
@@ -23,7 +24,6 @@ use Rattle.span_step.specs.declared.ages.Ages.TheVariants.{Empty, Between}
 use Rattle.span_step.specs.Contexts.{Context}
 use Rattle.span_step.specs.Outcomes.{level_at}
 use Rattle.span_step.specs.Courses.{is_edge}
-use Rattle.span_step.specs.Narrowing.{keeps}
 use Rattle.span_step.specs.Steps.{bounds_of, is_bounded, is_event, is_named}
 use Rattle.span_ticks.specs.UnderWay.{Watch, IsUnderWay, flow_of}
 
@@ -88,7 +88,7 @@ pub record IsAged (s : MachineSetup) (sp : Span) (address : ℕ) (kind : Kind) (
 -- the last instruction that finished left X and Y as the span assumes, after a tick at an address
 abbrev pub kept_after : Span → (kept : Bool) → (address : ℕ) → Registers × Intent → Bool
 kept_after sp kept address tick =
-    if finishes (works tick.1.kind None) tick.1.stalled then keeps sp address tick.0.x tick.0.y else kept
+    if finishes (works tick.1.kind None) tick.1.stalled then keeps sp.assume address tick.0.x tick.0.y else kept
 
 -- What comes of a tick at an address, which leaves these registers and this intent: some watch after it, with which the machine
 -- is under way again, unless the last instruction left X or Y otherwise than the span assumes and its delay is over. What is

@@ -1,5 +1,5 @@
 -- How long the lines of rows are, and how many rows a table may have.
-use Rattle.std.proofs.Common.{◌≡◌, ℕ, ◌+◌, ◌*◌, ◌^◌, ◌<◌, ◌≤◌, nat_lt, Bool, true, false, List, [], ◌∷◌, ◌++◌, length, length-append, codes, decimal, refl, sym, ap, ◌∙◌, arith}
+use Rattle.std.proofs.Common.{◌≡◌, ℕ, ◌+◌, ◌*◌, ◌^◌, ◌<◌, ◌≤◌, nat_lt, Bool, true, false, List, [], ◌∷◌, length, length-append, decimal, refl, ap, ◌∙◌, arith}
 use Rattle.std.proofs.lemmas.Bool.Decides.{nat_tests}
 use Rattle.std.proofs.lemmas.Nat.{mul-le}
 use Rattle.pin_matrix.specs.declared.assume.Follow.{Follow}
@@ -7,7 +7,7 @@ use Rattle.span_step.specs.Contexts.{Context, is_placed}
 use Rattle.span_bounds.specs.declared.row.Row.{Row}
 use Rattle.span_bounds.specs.Numbers.{contexts, number_of}
 use Rattle.span_bounds.specs.Tables.{IsTable, IsTableFrom}
-use Rattle.table_files.specs.Rows.{ages_text, context_line, fields_line, known_text, level_text, levels_text, row_line, row_lines}
+use Rattle.table_files.specs.Rows.{ages_text, context_line, fields_line, known_text, levels_text, row_line, row_lines}
 
 levels_len : (from to : Bool) → length (levels_text from to) ≡ 5
 levels_len true true = refl

@@ -1,4 +1,4 @@
-use Rattle.std.proofs.Common.{◌≡◌, ◌+◌, length, ap, ◌∙◌, arith}
+use Rattle.std.proofs.Common.{length, ap, ◌∙◌, arith}
 use Rattle.table_files.specs.Rows.{row_lines}
 use Rattle.table_files.proofs.Lengths.{lines_len}
 use Rattle.table_files.proofs.length.rows_len.Goals as goal

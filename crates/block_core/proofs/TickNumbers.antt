@@ -1,4 +1,4 @@
--- The number of a divider's next tick, and what a clock adds to it.
+-- The number of a divider's next tick, what a clock adds to it, and the clock of a tick by its number.
 use Rattle.std.proofs.Common.{◌≡◌, ℕ, zero, suc, ◌+◌, ◌-◌, ◌*◌, ◌/◌, ◌%◌, ◌<◌, ◌≤◌, max, Bool, true, false, IsTrue, cond, nat_lt, nat_le, refl, sym, ap, ◌∙◌, inl, inr, arith}
 use Rattle.std.proofs.lemmas.Bool.{cases_lt}
 use Rattle.std.proofs.lemmas.Bool.Decides.{nat_tests}
@@ -9,11 +9,11 @@ use Rattle.clock_divider.specs.Timing.{Timing, stepped}
 use Rattle.block_core.specs.Conduct.{clock_of_tick, next_tick, period_in}
 
 -- the number of the next tick, so many clocks after the restart
-abbrev number : (period elapsed : ℕ) → ℕ
+abbrev pub number : (period elapsed : ℕ) → ℕ
 number period elapsed = (elapsed * 256 + (period - 1)) / period
 
 -- its time isn't before the clock, and less than a period after the clock's start
-not_before : (period elapsed : ℕ) → 256 ≤ period → elapsed * 256 ≤ number period elapsed * period
+pub not_before : (period elapsed : ℕ) → 256 ≤ period → elapsed * 256 ≤ number period elapsed * period
 not_before period elapsed wide =
     let time = elapsed * 256 + (period - 1) in
     let split : time / period * period + time % period ≡ time = div-add-mod' time period in
@@ -85,7 +85,7 @@ next_number period elapsed wide =
           ∙ rw no (omega arith)
     ]
 
-number_more : (restarted period clock : ℕ) → number (max 256 period) (clock + 1 - restarted) ≡ number (max 256 period) (clock - restarted) + cond (is_tick restarted period clock) 1 0
+pub number_more : (restarted period clock : ℕ) → number (max 256 period) (clock + 1 - restarted) ≡ number (max 256 period) (clock - restarted) + cond (is_tick restarted period clock) 1 0
 number_more restarted period clock =
     elim (cases_lt clock restarted) [
       | inl early ↦
@@ -100,7 +100,7 @@ number_more restarted period clock =
     ]
 
 -- a tick is in the clock of its number
-clock_of : (restarted period clock : ℕ) → IsTrue (is_tick restarted period clock) → restarted + number (max 256 period) (clock - restarted) * max 256 period / 256 ≡ clock
+pub clock_of : (restarted period clock : ℕ) → IsTrue (is_tick restarted period clock) → restarted + number (max 256 period) (clock - restarted) * max 256 period / 256 ≡ clock
 clock_of restarted period clock ticks =
     elim (cases_lt clock restarted) [
       | inl early ↦ absurd (let no = none_before restarted period clock early in cc)
