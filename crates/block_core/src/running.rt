@@ -8,7 +8,7 @@ ghost use Rattle.block_core.specs.Block as spec;
 ghost use Rattle.block_core.specs.Conduct.{afters_in, standings_in};
 ghost use Rattle.block_core.specs.Inside.{inside_of};
 ghost use Rattle.block_core.specs.Kept.{AreTold};
-ghost use Rattle.block_core.specs.Leaps.{leapt};
+ghost use Rattle.block_core.specs.Leaps.{CalmLaws, leapt};
 ghost use Rattle.block_core.specs.Shown.{sample_of, requests_of, moved_of};
 ghost use Rattle.block_core.specs.Slots.{doing};
 ghost use Rattle.block_core.specs.Stirring.{machines_stir_over, pads_change_over};
@@ -22,10 +22,13 @@ use crate::merging::{Wanted, outside_after};
 use crate::place::{are_empty, inside, moved, shown, slot_of, step};
 use crate::slot::Slot;
 use dreq_pacing::{Due, Requests};
-use fifo_pair::Fifo;
+use fifo_pair::{Fifo, a_quiet_clock_changes_nothing};
 use irq_flags::Flags;
 use pin_matrix::{Setup, Sync, no_write_changes_nothing, pad_of, the_last_write_counts};
-use sm_registers::{Outputs, Shared, View, a_calm_tick_tells_nothing_new, writes_are_of_pins};
+use sm_registers::{
+    Outputs, Shared, View, a_calm_tick_only_counts, a_calm_tick_tells_nothing_new,
+    writes_are_of_pins,
+};
 use std::alloc::{AllocError, Global};
 use std::marker::Model;
 
@@ -240,10 +243,15 @@ impl<F: Fifo> Running<F> {
             || begins_now(&self.fourth)
     }
 
-    /// That the flags of stalls which go on are up. The type keeps it.
-    pub fn stalls_are_told(&self)
-        ensures { AreTold self.now.memory self.now.state.machines }
+    /// That only delays count in clocks in which nothing stirs: by the laws of ticks and FIFOs, and since the flags of
+    /// stalls which go on are up, as the type keeps it. This call does nothing.
+    pub fn a_rest_only_counts(&self)
+        ensures laws { CalmLaws }
+        ensures told { AreTold self.now.memory self.now.state.machines }
     {
+        a_calm_tick_only_counts();
+        a_calm_tick_tells_nothing_new();
+        a_quiet_clock_changes_nothing();
         let _clock = self.clock;
     }
 
