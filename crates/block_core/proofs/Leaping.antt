@@ -6,12 +6,12 @@ use Rattle.dreq_pacing.specs.Due.{quiet}
 use Rattle.dreq_pacing.specs.Ports.{IsFirst}
 use Rattle.block_core.specs.Block.{Run, pads_in, run_from}
 use Rattle.block_core.specs.Kept.{AreTold}
-use Rattle.block_core.specs.Leaps.{leapt_place, leapt}
+use Rattle.block_core.specs.Leaps.{CalmLaws, leapt_place, leapt}
 use Rattle.block_core.specs.Shown.{shown_in, requests_of, sample_of}
 use Rattle.block_core.specs.Slots.{Slot}
 use Rattle.block_core.specs.Stirring.{moves_on, machines_stir_over, pads_change_over, pads_change}
 use Rattle.block_core.proofs.Firsts.{first_same, first_while}
-use Rattle.block_core.proofs.LeaptRun.{CalmLaws, rests, leaps_by}
+use Rattle.block_core.proofs.LeaptRun.{rests, leaps_by}
 
 -- Once it has leapt, over pads that don't change, it moves on where a machine stirs.
 only_machines : (a p : Bool) → p ≡ false → (a || p) ≡ (false || a)

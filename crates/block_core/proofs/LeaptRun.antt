@@ -22,18 +22,10 @@ use Rattle.sm_registers.specs.Told.{IsKnown, AreUp}
 use Rattle.dreq_pacing.specs.Due.{quiet, no_machine}
 use Rattle.block_core.specs.Block.{BlockState, Run, next, next_over, stepped, run_from, view_of, seen_over, pads_in, level_writes, direction_writes, with_all}
 use Rattle.block_core.specs.Kept.{memory_alone, IsTold, AreTold}
-use Rattle.block_core.specs.Leaps.{ticks_in, leapt_slot, leapt_place, leapt}
+use Rattle.block_core.specs.Leaps.{CalmLaws, ticks_in, leapt_slot, leapt_place, leapt}
 use Rattle.block_core.specs.Slots.{Slot, lined, has_tick, acted, settled_slot, slot_after, place_after, place_intent}
 use Rattle.block_core.specs.Stirring.{moves_on, moves_on_over, machines_stir_over, pads_change_over}
 use Rattle.block_core.proofs.Told.{known_in, told_leapt}
-
--- what the laws of calm ticks and of quiet FIFOs say
-pub record CalmLaws : Type 0 where
-  pub counts : (s : MachineSetup) (v : View) (q : Queues) (r : Registers) → stirs (tick_of s v q r).1 ≡ false
-      → tick_of s v q r ≡ (only_counts r, only_waits (tick_of s v q r).1)
-  pub tells : (s : MachineSetup) (v : View) (q : Queues) (r : Registers) (sticky : ℕ)
-      → IsKnown v s r sticky → stirs (tick_of s v q r).1 ≡ false → AreUp (tick_of s v q r).1.sticky sticky
-  pub fifos : (f : Fifos) → settled false None None false f ≡ f
 
 -- nothing is done at any place
 pub no_line : (id : ℕ) → slice_index_or no_machine id false ≡ false

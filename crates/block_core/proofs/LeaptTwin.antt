@@ -4,11 +4,11 @@ use Rattle.std.proofs.lemmas.Bool.{or_parts}
 use Rattle.dreq_pacing.specs.Due.{quiet}
 use Rattle.dreq_pacing.specs.Ports.{IsFirst}
 use Rattle.block_core.specs.Kept.{AreTold}
-use Rattle.block_core.specs.Leaps.{leapt}
+use Rattle.block_core.specs.Leaps.{CalmLaws, leapt}
 use Rattle.block_core.specs.Stirring.{moves_on_over, machines_stir_over, pads_change_over}
 use Rattle.block_core.specs.Twin.{TwinRun, twin_pads_in, twin_next, twin_from, leapt_twin, twin_pads_change, twin_moves_on}
 use Rattle.block_core.proofs.Firsts.{first_same, first_while}
-use Rattle.block_core.proofs.LeaptRun.{CalmLaws, leaps_once_over, leapt-once_more, leapt-none}
+use Rattle.block_core.proofs.LeaptRun.{leaps_once_over, leapt-once_more, leapt-none}
 use Rattle.block_core.proofs.Told.{told_leapt}
 
 -- in both the flags of stalls are up

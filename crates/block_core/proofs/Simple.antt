@@ -111,13 +111,13 @@ place_uses_none v None w = refl
 place_uses_none v (Some s) w = uses_none v s w
 
 pub simple_uses_none : (memory : List ℕ) (clock levels directions flags outside : ℕ) (sync : Synchroniser) (pad seen : ℕ) (a b c e a2 : Option Slot) (o : Outputs) → AllEmpty b c e → IsSimple memory levels directions flags sync pad seen a a2 o →
-    uses_fifos_over pad quiet (run memory clock levels directions flags outside sync a b c e) ≡ false
+    false ≡ uses_fifos_over pad quiet (run memory clock levels directions flags outside sync a b c e)
 simple_uses_none memory clock levels directions flags outside sync pad seen a b c e a2 o none s =
     let w0 = nothing_wanted levels directions in
     let w1 = with_intent w0 (place_intent (view memory seen flags) quiet a) in
     rw (none.second, none.third, none.fourth)
-    (sym (any_used quiet memory clock levels directions flags outside sync a None None None outside pad seen w0 w1 w1 w1 w1 (as_step memory levels directions flags outside sync pad seen a a2 o s)
-    false false false false (place_uses_none (view memory seen flags) a s.wants) refl refl refl))
+    (any_used quiet memory clock levels directions flags outside sync a None None None outside pad seen w0 w1 w1 w1 w1 (as_step memory levels directions flags outside sync pad seen a a2 o s)
+    false false false false (place_uses_none (view memory seen flags) a s.wants) refl refl refl)
 
 -- so the sample still has what is seen of the machine
 pub simple_shows : StaysQuiet → (memory : List ℕ) (levels directions flags : ℕ) (sync : Synchroniser) (pad seen : ℕ) (a a2 : Option Slot) (o : Outputs) (x : Sample) → IsSimple memory levels directions flags sync pad seen a a2 o → Shows 0 a x → Shows 0 a2 x
@@ -128,15 +128,6 @@ simple_shows law memory levels directions flags sync pad seen a a2 o x s h = sub
   from : (a : Option Slot) → WantsPins (place_intent v quiet a) → Shows 0 a x → Shows 0 (place_after v quiet a) x
   from None w h = h
   from (Some t) w h = still_shows law 0 v quiet t (slot_after v quiet t) x refl (sym (uses_none v t w)) (ap (λ (x : Wants). x.sticky) w) h
-
--- two options that tell something tell the same where they are the same
-told_in : Option Bool → Bool
-told_in (Some b) = b
-told_in None = true
-
-pub some_same : {a b : Bool} → Some a ≡ Some b → a ≡ b
-unfolding told_in
-some_same h = ap told_in h
 
 -- where the sample is the one before, the pads of the next clock are those of this one
 pub pads_stay : (pad : ℕ) (r after : Run) → after ≡ next_over pad quiet r → sample_of after.state ≡ sample_of r.state → pads_in quiet after.state ≡ pads_in quiet r.state

@@ -1,13 +1,13 @@
 -- What a block keeps true of its fields, which no contract names.
-use Rattle.std.specs.Prelude.{◌≡◌, ℕ, ◌+◌, ◌^◌, ◌<◌, ◌≤◌, Bool, true, ◌&&◌, Option, Some, None, is_none, List, [], ◌∷◌, slice_index_or}
+use Rattle.std.specs.Prelude.{◌≡◌, ℕ, ◌+◌, ◌^◌, ◌<◌, ◌≤◌, Bool, true, ◌&&◌, Option, Some, None, is_none, List, [], ◌∷◌}
 use Rattle.std.specs.List.{AllByRecursion}
 use Rattle.sm_registers.specs.Told.{IsKnown}
 use Rattle.sm_registers.specs.View.{View}
 use Rattle.block_core.specs.declared.running.Known.{Known}
 use Rattle.block_core.specs.declared.sample.Sample.{Sample}
-use Rattle.block_core.specs.Block.{BlockState, Run, seen_over, view_of}
+use Rattle.block_core.specs.Block.{BlockState}
 use Rattle.block_core.specs.Shown.{sample_of}
-use Rattle.block_core.specs.Slots.{Slot, is_ready, is_simple}
+use Rattle.block_core.specs.Slots.{Slot, is_ready}
 
 -- a place's divider is in this clock, and its transfers moved at most a word in each
 abbrev pub IsInStep : ℕ → Option Slot → Type 0
@@ -63,12 +63,6 @@ are_empty b c d = is_none b && (is_none c && is_none d)
 pub record AreKnown (known : Known) (a b c d : Option Slot) : Type 0 where
   pub alone : known.alone ≡ are_empty b c d
   pub ready : known.ready ≡ true → (known.alone ≡ true) × (is_ready a ≡ true)
-
--- the clock, with these pads and without the system, is a simple one of the only machine
-abbrev pub is_simple_over : (pad : ℕ) → Run → Bool
-is_simple_over pad r = let places = r.state.machines in
-    are_empty (slice_index_or places 1 None) (slice_index_or places 2 None) (slice_index_or places 3 None)
-    && is_simple (view_of r.memory (seen_over pad r) r.state) (slice_index_or places 0 None)
 
 -- The sample is that of the state.
 pub record IsSampleOf (state : BlockState) (sample : Sample) : Type 0 where

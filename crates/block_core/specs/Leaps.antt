@@ -4,9 +4,16 @@
 --   leapt_place   the same of a place in the block
 --   leapt         the run after them
 --   stirs_after   whether the machine of a place stirs in the clock after them
-use Rattle.std.specs.Prelude.{ℕ, ◌+◌, ◌-◌, Bool, Option, option_map, map, if◌then◌else◌}
+--   CalmLaws      why it is so
+use Rattle.std.specs.Prelude.{◌≡◌, ℕ, ◌+◌, ◌-◌, Bool, false, Option, None, option_map, map, if◌then◌else◌}
 use Rattle.clock_divider.specs.Ticks.{tick_count}
-use Rattle.sm_registers.specs.Idling.{stirs}
+use Rattle.fifo_pair.specs.Fifos.{Fifos, settled}
+use Rattle.pin_matrix.specs.declared.machine.MachineSetup.{MachineSetup}
+use Rattle.sm_registers.specs.declared.registers.Registers.{Registers}
+use Rattle.sm_registers.specs.Idling.{stirs, only_counts, only_waits}
+use Rattle.sm_registers.specs.Queues.{Queues}
+use Rattle.sm_registers.specs.Tick.{tick_of}
+use Rattle.sm_registers.specs.Told.{IsKnown, AreUp}
 use Rattle.sm_registers.specs.View.{View}
 use Rattle.dreq_pacing.specs.Due.{quiet}
 use Rattle.block_core.specs.Slots.{Slot, place_intent}
@@ -37,3 +44,11 @@ leapt n r = record r {
 -- whether the machine of a place stirs in the clock after n others, where it sees this in each
 abbrev pub stirs_after : View → Option Slot → ℕ → Bool
 stirs_after v place n = stirs (place_intent v quiet (leapt_place n place))
+
+-- What the laws of ticks that don't stir, and of FIFOs at which nobody does anything, say.
+pub record CalmLaws : Type 0 where
+  pub counts : (s : MachineSetup) (v : View) (q : Queues) (r : Registers) → stirs (tick_of s v q r).1 ≡ false
+      → tick_of s v q r ≡ (only_counts r, only_waits (tick_of s v q r).1)
+  pub tells : (s : MachineSetup) (v : View) (q : Queues) (r : Registers) (sticky : ℕ)
+      → IsKnown v s r sticky → stirs (tick_of s v q r).1 ≡ false → AreUp (tick_of s v q r).1.sticky sticky
+  pub fifos : (f : Fifos) → settled false None None false f ≡ f

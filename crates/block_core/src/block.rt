@@ -15,9 +15,8 @@ use crate::inside::Inside;
 use crate::news::News;
 use crate::running::Running;
 use dreq_pacing::{Due, Requests};
-use fifo_pair::{Fifo, a_quiet_clock_changes_nothing};
+use fifo_pair::Fifo;
 use pin_matrix::{Setup, pad_of};
-use sm_registers::{a_calm_tick_only_counts, a_calm_tick_tells_nothing_new};
 use std::alloc::{AllocError, Global};
 use std::marker::Model;
 
@@ -115,10 +114,7 @@ impl<F: Fifo> Block<F> {
     pub fn next_stir(&self) -> Option<u64>
         ensures first { IsFirst (λ n. moves_on quiet (run_from self.now.run (λ c. quiet) n)) 0 result }
     {
-        a_calm_tick_only_counts();
-        a_calm_tick_tells_nothing_new();
-        a_quiet_clock_changes_nothing();
-        self.running.stalls_are_told();
+        self.running.a_rest_only_counts();
         if self.running.pads_change(self.pad) {
             return Some(0);
         }
@@ -136,10 +132,7 @@ impl<F: Fifo> Block<F> {
             run_from self.old.run (λ c. quiet) k ≡ leapt k self.old.run }
         ensures calls { self.new.calls ≡ self.old.calls }
     {
-        a_calm_tick_only_counts();
-        a_calm_tick_tells_nothing_new();
-        a_quiet_clock_changes_nothing();
-        self.running.stalls_are_told();
+        self.running.a_rest_only_counts();
         self.running.leap(self.pad, clocks);
         self.pad = self.running.pads(None);
         self.leapt += clocks;

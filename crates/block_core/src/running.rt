@@ -7,8 +7,8 @@ ghost use Rattle.block_core.specs.Block.{first_run_over, next_over, pads_in, wan
 ghost use Rattle.block_core.specs.Block as spec;
 ghost use Rattle.block_core.specs.Conduct.{afters_in, standings_in};
 ghost use Rattle.block_core.specs.Inside.{inside_of};
-ghost use Rattle.block_core.specs.Kept.{AreTold, is_simple_over};
-ghost use Rattle.block_core.specs.Leaps.{leapt};
+ghost use Rattle.block_core.specs.Kept.{AreTold};
+ghost use Rattle.block_core.specs.Leaps.{CalmLaws, leapt};
 ghost use Rattle.block_core.specs.Shown.{sample_of, requests_of, moved_of};
 ghost use Rattle.block_core.specs.Slots.{doing};
 ghost use Rattle.block_core.specs.Stirring.{machines_stir_over, pads_change_over};
@@ -19,16 +19,20 @@ use crate::conduct::{After, Standing, stands, stands_after};
 use crate::inside::{Inside, MachineInside};
 use crate::leaps::{begins_now, leap, sooner};
 use crate::merging::{Wanted, outside_after};
-use crate::news::News;
 use crate::place::{are_empty, inside, moved, shown, slot_of, step};
 use crate::slot::Slot;
 use dreq_pacing::{Due, Requests};
 use fifo_pair::{Fifo, a_quiet_clock_changes_nothing};
 use irq_flags::Flags;
 use pin_matrix::{Setup, Sync, no_write_changes_nothing, pad_of, the_last_write_counts};
-use sm_registers::{Outputs, Shared, View, a_calm_tick_tells_nothing_new, writes_are_of_pins};
+use sm_registers::{
+    Outputs, Shared, View, a_calm_tick_only_counts, a_calm_tick_tells_nothing_new,
+    writes_are_of_pins,
+};
 use std::alloc::{AllocError, Global};
 use std::marker::Model;
+
+mod quiet;
 
 /// Four machines that share instruction memory, pins and IRQ flags, in some clock of a run.
 pub(crate) struct Running<F: Fifo> {
@@ -185,58 +189,7 @@ impl<F: Fifo> Running<F> {
         self.step_all(pad, Some(due))
     }
 
-    /// The same where the system does nothing, and what it may have changed.
-    #[inline(always)]
-    pub fn quiet_step(&mut self, pad: u32) -> News
-        requires { self.old.clock < 2 ^ 40 }
-        ensures run { self.new ≡ next_over pad quiet self.old }
-        ensures fifos { result.fifos ≡ uses_fifos_over pad quiet self.old }
-        ensures sample { result.sample ≡ false → sample_of self.new.state ≡ sample_of self.old.state }
-    {
-        match self.simple_step(pad) {
-            Some(sample) => News {
-                fifos: false,
-                sample,
-            },
-            None => News {
-                fifos: self.step_all(pad, None),
-                sample: true,
-            },
-        }
-    }
-
-    /// The same where the clock is a simple one of the only machine (`Slot::simple_clock`); else nothing is done. It
-    /// tells whether the sample is another one, where it was done, and then nobody did anything at a FIFO.
-    #[inline(always)]
-    fn simple_step(&mut self, pad: u32) -> Option<bool>
-        requires { self.old.clock < 2 ^ 40 }
-        ensures simple { is_some result ≡ is_simple_over pad self.old }
-        ensures run { is_some result ≡ true → self.new ≡ next_over pad quiet self.old }
-        ensures used { is_some result ≡ true → uses_fifos_over pad quiet self.old ≡ false }
-        ensures sample { result ≡ Some false → sample_of self.new.state ≡ sample_of self.old.state }
-        ensures kept { is_some result ≡ false → self.new ≡ self.old }
-    {
-        a_calm_tick_tells_nothing_new();
-        a_quiet_clock_changes_nothing();
-        if !self.known.ready && !self.known.alone {
-            return None;
-        }
-        let Some(first) = &mut self.first else {
-            return None;
-        };
-        let view = View::new(&self.shared, pad);
-        let tried = first.simple_clock(&view, &mut self.wanted.outputs, self.known.ready);
-        if !tried.is_done() {
-            return None;
-        }
-        self.known.ready = tried.is_ready();
-        self.shared.sync.step(pad);
-        self.clock += 1;
-        Some(self.sample.show_pins(&self.wanted.outputs))
-    }
-
-    /// The same of any machines, whatever they do, where the system does this, if anything. It is code of its own,
-    /// which keeps that of most clocks short.
+    /// The same where the system does this, if anything. It is code of its own, which keeps that of most clocks short.
     #[cold]
     #[inline(never)]
     fn step_all(&mut self, pad: u32, due: Option<&Due>) -> bool
@@ -290,10 +243,15 @@ impl<F: Fifo> Running<F> {
             || begins_now(&self.fourth)
     }
 
-    /// That the flags of stalls which go on are up. The type keeps it.
-    pub fn stalls_are_told(&self)
-        ensures { AreTold self.now.memory self.now.state.machines }
+    /// That only delays count in clocks in which nothing stirs: by the laws of ticks and FIFOs, and since the flags of
+    /// stalls which go on are up, as the type keeps it. This call does nothing.
+    pub fn a_rest_only_counts(&self)
+        ensures laws { CalmLaws }
+        ensures told { AreTold self.now.memory self.now.state.machines }
     {
+        a_calm_tick_only_counts();
+        a_calm_tick_tells_nothing_new();
+        a_quiet_clock_changes_nothing();
         let _clock = self.clock;
     }
 

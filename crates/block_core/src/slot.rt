@@ -1,7 +1,6 @@
 //! One machine in a run of its block, with its divider.
 ghost use Rattle.std.specs.Prelude.{◌≡◌, ℕ, ◌<◌, ◌≤◌, ◌^◌, ◌+◌, Some, length, IsTrue, IsSome, IfOk, false, true};
 ghost use Rattle.clock_divider.specs.Timing as timing;
-ghost use Rattle.sm_registers.specs.Simple.{is_done, leaves_ready};
 ghost use Rattle.sm_registers.specs.State as spec_shown;
 ghost use Rattle.dreq_pacing.specs.Due.{quiet};
 ghost use Rattle.dreq_pacing.specs.Ports.{IsFirst};
@@ -18,14 +17,14 @@ use clock_divider::Divider;
 use dreq_pacing::Due;
 use fifo_pair::{Fifo, a_quiet_clock_changes_nothing};
 use pin_matrix::MachineSetup;
-use sm_registers::{Idle, Intent, Machine, Outputs, Shown, Tried, View, a_calm_tick_only_counts};
+use sm_registers::{Idle, Intent, Machine, Shown, View, a_calm_tick_only_counts};
 use std::alloc::{AllocError, Global};
 use std::marker::Model;
 
 /// A machine that is configured.
 pub(crate) struct Slot<F: Fifo> {
-    machine: Machine<F>,
-    divider: Divider,
+    pub machine: Machine<F>,
+    pub divider: Divider,
     enabled: bool,
     sent: u64,
     received: u64,
@@ -105,50 +104,12 @@ impl<F: Fifo> Slot<F> {
         (intent, used)
     }
 
-    /// Its clock, where the system does nothing in it and it is a simple one: it has no tick, or a simple tick. Else
-    /// nothing is done. Of a machine that is known to be ready in this clock, nothing more is asked. It wants nothing
-    /// of its block but pins then, which it writes over those of the machines before it, nor of its FIFOs.
-    #[inline(always)]
-    pub fn simple_clock(&mut self, view: &View, outputs: &mut Outputs, ready: bool) -> Tried
-        requires ready { ready ≡ true → spec.is_ready (Some self.old) ≡ true }
-        requires clock { self.old.timing.clock < 2 ^ 40 }
-        ensures simple { is_done result ≡ spec.is_simple view.now (Some self.old) }
-        ensures done { is_done result ≡ true → spec.MakesSimpleClock view.now self.old self.new outputs.old outputs.new }
-        ensures next { leaves_ready result ≡ true → spec.is_ready (Some self.new) ≡ true }
-        ensures kept { is_done result ≡ false → (self.new ≡ self.old) × (outputs.new ≡ outputs.old) }
-    {
-        a_quiet_clock_changes_nothing();
-        if !self.has_tick_by(ready) {
-            self.divider.step();
-            return Tried::Done;
-        }
-        let tried = self.machine.simple_tick(view, outputs, ready);
-        if !tried.is_done() {
-            return tried;
-        }
-        self.divider.step_from_tick();
-        if self.divider.ticks_now() {
-            tried
-        } else {
-            Tried::Done
-        }
-    }
-
     /// Whether the clock is a tick of it.
     #[inline(always)]
-    fn has_tick(&self) -> bool
+    pub fn has_tick(&self) -> bool
         ensures { result ≡ spec.has_tick self.now }
     {
         self.enabled && self.divider.ticks_now()
-    }
-
-    /// The same, where it may be known to be ready: its clock is a tick then.
-    #[inline(always)]
-    fn has_tick_by(&self, ready: bool) -> bool
-        requires { ready ≡ true → spec.is_ready (Some self.now) ≡ true }
-        ensures { result ≡ spec.has_tick self.now }
-    {
-        ready || self.has_tick()
     }
 
     /// The place of its lines in `Due`.

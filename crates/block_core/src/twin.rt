@@ -11,9 +11,8 @@ use crate::Sample;
 use crate::news::News;
 use crate::running::Running;
 use dreq_pacing::{Due, Requests};
-use fifo_pair::{Fifo, a_quiet_clock_changes_nothing};
+use fifo_pair::Fifo;
 use pin_matrix::{Setup, pad_of};
-use sm_registers::{a_calm_tick_only_counts, a_calm_tick_tells_nothing_new};
 use std::alloc::{AllocError, Global};
 use std::marker::Model;
 
@@ -132,11 +131,8 @@ impl<F: Fifo> Twin<F> {
     pub fn next_stir(&self) -> Option<u64>
         ensures first { IsFirst (λ n. twin_moves_on quiet quiet (twin_from self.now.twin (λ c. quiet) (λ c. quiet) n)) 0 result }
     {
-        a_calm_tick_only_counts();
-        a_calm_tick_tells_nothing_new();
-        a_quiet_clock_changes_nothing();
-        self.first.stalls_are_told();
-        self.second.stalls_are_told();
+        self.first.a_rest_only_counts();
+        self.second.a_rest_only_counts();
         let pad = self.pads(None);
         if self.pads_change(pad) {
             return Some(0);
@@ -157,11 +153,8 @@ impl<F: Fifo> Twin<F> {
             twin_from self.old.twin (λ c. quiet) (λ c. quiet) k ≡ leapt_twin k self.old.twin }
         ensures calls { self.new.calls ≡ self.old.calls }
     {
-        a_calm_tick_only_counts();
-        a_calm_tick_tells_nothing_new();
-        a_quiet_clock_changes_nothing();
-        self.first.stalls_are_told();
-        self.second.stalls_are_told();
+        self.first.a_rest_only_counts();
+        self.second.a_rest_only_counts();
         let pad = self.pads(None);
         self.first.leap(pad, clocks);
         self.second.leap(pad, clocks);

@@ -1,5 +1,5 @@
 mod Growing
-mod Held
+mod RepeatedSamples
 mod OneBlock
 mod Leaping
 mod SampleLists

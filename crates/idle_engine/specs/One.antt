@@ -8,10 +8,10 @@ use Rattle.block_core.specs.Block.{next, run_from}
 use Rattle.block_core.specs.Hosted.{Hosted, hosted_next, hosted_at, samples}
 use Rattle.block_core.specs.Shown.{requests_of, sample_of}
 use Rattle.block_core.specs.Stirring.{moves_on, stirs_in}
-use Rattle.idle_engine.specs.Kinds.{Kind}
+use Rattle.idle_engine.specs.Kinds.{RunKind}
 
 -- the kind of such a run (`Kinds`)
-abbrev pub one : Kind Hosted (List Line) Sample
+abbrev pub one : RunKind Hosted (List Line) Sample
 one = record {
   in_clock = λ h n. h.run.clock ≡ n;
   acts = λ lines h n. acts_in lines n (requests_of h.run.state) h.transfers;

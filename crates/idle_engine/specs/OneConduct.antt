@@ -9,7 +9,7 @@ use Rattle.dreq_pacing.specs.Due.{quiet}
 use Rattle.block_core.specs.declared.conduct.Conduct.{Conduct}
 use Rattle.block_core.specs.Conduct.{conduct_after, conduct_before, conducts}
 use Rattle.block_core.specs.Hosted.{Hosted, due_of, hosted_at, hosted_next}
-use Rattle.idle_engine.specs.Kinds.{Kind}
+use Rattle.idle_engine.specs.Kinds.{RunKind}
 use Rattle.idle_engine.specs.One.{one}
 
 -- A block with what is left of the transfers, and what is told of its last clock of note.
@@ -34,7 +34,7 @@ conducting_from h zero = h
 conducting_from h (suc n) = conducting_quiet (conducting_from h n)
 
 -- the kind of such a run (`Kinds`): it goes as one that shows its sample
-abbrev pub one_conduct : Kind Conducting (List Line) Conduct
+abbrev pub one_conduct : RunKind Conducting (List Line) Conduct
 one_conduct = record {
   in_clock = λ h n. one.in_clock h.hosted n;
   acts = λ lines h n. one.acts lines h.hosted n;

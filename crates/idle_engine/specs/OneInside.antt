@@ -4,11 +4,11 @@ use Rattle.dreq_pacing.specs.declared.line.Line.{Line}
 use Rattle.block_core.specs.declared.inside.Inside.{Inside}
 use Rattle.block_core.specs.Hosted.{Hosted, hosted_at}
 use Rattle.block_core.specs.Inside.{inside_of, insides}
-use Rattle.idle_engine.specs.Kinds.{Kind}
+use Rattle.idle_engine.specs.Kinds.{RunKind}
 use Rattle.idle_engine.specs.One.{one}
 
 -- the kind of such a run (`Kinds`): it goes as one that shows its sample
-abbrev pub one_inside : Kind Hosted (List Line) Inside
+abbrev pub one_inside : RunKind Hosted (List Line) Inside
 one_inside = record {
   in_clock = one.in_clock;
   acts = one.acts;

@@ -7,7 +7,7 @@ use Rattle.block_core.specs.declared.sample.Sample.{Sample}
 use Rattle.block_core.specs.HostedTwin.{HostedTwin, twin_of, hosted_twin_next, hosted_twin_at, twin_samples, twin_stirs_in}
 use Rattle.block_core.specs.Shown.{requests_of, sample_of}
 use Rattle.block_core.specs.Twin.{TwinRun, twin_next, twin_from, twin_moves_on}
-use Rattle.idle_engine.specs.Kinds.{Kind}
+use Rattle.idle_engine.specs.Kinds.{RunKind}
 
 -- two hosted blocks, with these in their place and what is left of their transfers
 abbrev pub with_twin : HostedTwin → TwinRun → HostedTwin
@@ -18,7 +18,7 @@ with_twin h t = record {
 }
 
 -- the kind of such a run (`Kinds`)
-abbrev pub two : Kind HostedTwin (List Line × List Line) (Sample × Sample)
+abbrev pub two : RunKind HostedTwin (List Line × List Line) (Sample × Sample)
 two = record {
   in_clock = λ h n. (h.first.run.clock ≡ n) × (h.second.run.clock ≡ n);
   acts = λ lines h n.

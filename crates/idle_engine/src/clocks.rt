@@ -32,11 +32,11 @@ pub(crate) fn step<V, P, R: Runs<V, P>>(
     runs.is_of_its_kind(ports);
     if clock >= until {
         runs.asked_clock(ports, clock);
-        return (runs.rests_until(ports, clock + 1, end), true);
+        return (runs.next_due(ports, clock + 1, end), true);
     }
     let news = runs.quiet_clock(ports, clock);
     if news.fifos {
-        (runs.rests_until(ports, clock + 1, end), news.sample)
+        (runs.next_due(ports, clock + 1, end), news.sample)
     } else {
         (until, news.sample)
     }
@@ -60,7 +60,7 @@ pub(crate) fn leap<V, P, R: Runs<V, P>>(runs: &mut R, ports: &P, clock: u64, unt
     if runs.begins_or_changes(ports) || clock >= until {
         return clock;
     }
-    let clocks = runs.moves_after(ports, until - clock);
+    let clocks = runs.next_stir(ports, until - clock);
     if clocks == 0 {
         return clock;
     }

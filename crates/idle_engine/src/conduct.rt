@@ -59,7 +59,7 @@ impl<'a, F: Fifo> Runs<Conduct, HostPorts<'a>> for Conducted<F> {
 
     #[cold]
     #[inline(never)]
-    fn rests_until(&self, ports: &HostPorts<'a>, clock: u64, end: u64) -> u64 {
+    fn next_due(&self, ports: &HostPorts<'a>, clock: u64, end: u64) -> u64 {
         until(ports.next_due(clock, &self.block().requests()), end)
     }
 
@@ -71,7 +71,7 @@ impl<'a, F: Fifo> Runs<Conduct, HostPorts<'a>> for Conducted<F> {
 
     #[cold]
     #[inline(never)]
-    fn moves_after(&self, _ports: &HostPorts<'a>, most: u64) -> u64 {
+    fn next_stir(&self, _ports: &HostPorts<'a>, most: u64) -> u64 {
         until(self.block().next_stir(), most)
     }
 

@@ -55,8 +55,8 @@ impl<'a, F: Fifo> Runs<Inside, HostPorts<'a>> for Block<F> {
     }
 
     #[inline(always)]
-    fn rests_until(&self, ports: &HostPorts<'a>, clock: u64, end: u64) -> u64 {
-        <Self as Runs<Sample, HostPorts<'a>>>::rests_until(self, ports, clock, end)
+    fn next_due(&self, ports: &HostPorts<'a>, clock: u64, end: u64) -> u64 {
+        <Self as Runs<Sample, HostPorts<'a>>>::next_due(self, ports, clock, end)
     }
 
     #[inline(always)]
@@ -65,8 +65,8 @@ impl<'a, F: Fifo> Runs<Inside, HostPorts<'a>> for Block<F> {
     }
 
     #[inline(always)]
-    fn moves_after(&self, ports: &HostPorts<'a>, most: u64) -> u64 {
-        <Self as Runs<Sample, HostPorts<'a>>>::moves_after(self, ports, most)
+    fn next_stir(&self, ports: &HostPorts<'a>, most: u64) -> u64 {
+        <Self as Runs<Sample, HostPorts<'a>>>::next_stir(self, ports, most)
     }
 
     #[cold]

@@ -2,7 +2,7 @@
 ghost use Rattle.std.specs.Prelude.{◌≡◌, ℕ, ◌+◌, ◌<◌, ◌≤◌, ◌^◌, Bool, true, false};
 ghost use Rattle.std.specs.Cow.{cow_value};
 ghost use Rattle.dreq_pacing.specs.Ports.{IsFirst};
-ghost use Rattle.idle_engine.specs.Kinds.{Kind, IsKind, IsUntil, IsCalm};
+ghost use Rattle.idle_engine.specs.Kinds.{RunKind, IsKind, IsUntil, IsCalm};
 
 use block_core::News;
 use std::borrow::Cow;
@@ -16,7 +16,7 @@ pub(crate) trait Runs<V, P> {
     ghost Lines: { Type 0 };
 
     /// What happens in its clocks.
-    ghost kind: { Kind Hosted Lines V };
+    ghost kind: { RunKind Hosted Lines V };
 
     /// Its state now.
     ghost hosted: { Self → P → Hosted };
@@ -62,7 +62,7 @@ pub(crate) trait Runs<V, P> {
         ensures calls { calls self.new ≡ calls self.old + 1 };
 
     /// The first clock from this one on in which the system acts, while the machines ask for what they ask now, or the end.
-    fn rests_until(&self, ports: &P, clock: u64, end: u64) -> u64
+    fn next_due(&self, ports: &P, clock: u64, end: u64) -> u64
         requires ready { ready ports.now clock }
         requires ahead { clock ≤ end }
         requires within { end ≤ 10 ^ 12 }
@@ -73,7 +73,7 @@ pub(crate) trait Runs<V, P> {
         ensures { result ≡ true → kind.moves (hosted self.now ports.now) ≡ true };
 
     /// How many clocks go by before the first in which it moves on, if the system does nothing, up to the most.
-    fn moves_after(&self, ports: &P, most: u64) -> u64
+    fn next_stir(&self, ports: &P, most: u64) -> u64
         ensures { IsUntil (λ n. kind.moves (kind.quiet_from (hosted self.now ports.now) n)) most 0 result };
 
     /// So many clocks at once, in none of which it moves on, and in which the system does nothing.

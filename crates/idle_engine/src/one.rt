@@ -54,7 +54,7 @@ impl<'a, F: Fifo> Runs<Sample, HostPorts<'a>> for Block<F> {
 
     #[cold]
     #[inline(never)]
-    fn rests_until(&self, ports: &HostPorts<'a>, clock: u64, end: u64) -> u64 {
+    fn next_due(&self, ports: &HostPorts<'a>, clock: u64, end: u64) -> u64 {
         until(ports.next_due(clock, &self.requests()), end)
     }
 
@@ -66,8 +66,8 @@ impl<'a, F: Fifo> Runs<Sample, HostPorts<'a>> for Block<F> {
 
     #[cold]
     #[inline(never)]
-    fn moves_after(&self, _ports: &HostPorts<'a>, most: u64) -> u64 {
-        until(self.next_stir(), most)
+    fn next_stir(&self, _ports: &HostPorts<'a>, most: u64) -> u64 {
+        until(Block::next_stir(self), most)
     }
 
     #[cold]

@@ -180,7 +180,7 @@ fn run<V: Drop, P, R: Runs<V, P>, T: Trace<V>, L: Ledger>(
 {
     runs.is_of_its_kind(ports);
     trace.begin()?;
-    let mut until = runs.rests_until(ports, 0, clocks);
+    let mut until = runs.next_due(ports, 0, clocks);
     let mut clock = 0;
     'clocks: while clock < clocks {
         let (rests, is_new) = step(runs, ports, clock, until, clocks);

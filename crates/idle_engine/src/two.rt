@@ -66,7 +66,7 @@ impl<'a, F: Fifo> Runs<(Sample, Sample), (HostPorts<'a>, HostPorts<'a>)> for Twi
 
     #[cold]
     #[inline(never)]
-    fn rests_until(&self, ports: &(HostPorts<'a>, HostPorts<'a>), clock: u64, end: u64) -> u64 {
+    fn next_due(&self, ports: &(HostPorts<'a>, HostPorts<'a>), clock: u64, end: u64) -> u64 {
         let (first, second) = self.requests();
         let first = until(ports.0.next_due(clock, &first), end);
         let second = until(ports.1.next_due(clock, &second), end);
@@ -81,8 +81,8 @@ impl<'a, F: Fifo> Runs<(Sample, Sample), (HostPorts<'a>, HostPorts<'a>)> for Twi
 
     #[cold]
     #[inline(never)]
-    fn moves_after(&self, _ports: &(HostPorts<'a>, HostPorts<'a>), most: u64) -> u64 {
-        until(self.next_stir(), most)
+    fn next_stir(&self, _ports: &(HostPorts<'a>, HostPorts<'a>), most: u64) -> u64 {
+        until(Twin::next_stir(self), most)
     }
 
     #[cold]

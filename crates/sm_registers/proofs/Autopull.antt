@@ -149,7 +149,7 @@ reached_effect (Irq clear waits index) s v q r f h k = search (rules, reached_if
 reached_effect (Set d value) s v q r f h k = reached_by _ _ (same_reached _ _ _ h (set_count d value s r))
 reached_effect Nothing s v q r f h k = reached_by _ _ h
 
-all_three : (a b c : Bool) → a ≡ true → b ≡ true → c ≡ true → (a && (b && c)) ≡ true
+all_three : (a b c : Bool) → a ≡ true → b ≡ true → c ≡ true → ((a && b) && c) ≡ true
 all_three a b c h k l = rw (h, k, l) refl
 
 refill_due : (s : MachineSetup) (q : Queues) (r : Registers) → s.autopull ≡ true → is_some q.front ≡ true → s.pull_threshold ≤ r.out_count → refills s q r ≡ true
@@ -190,7 +190,7 @@ word_is_taken s v q r h k l other =
     ]
 
 -- no refill follows a word that the instruction took
-middle_fails : (a b c : Bool) → b ≡ false → (a && (b && c)) ≡ false
+middle_fails : (a b c : Bool) → b ≡ false → ((a && b) && c) ≡ false
 middle_fails true b c h = rw h refl
 middle_fails false b c h = refl
 
@@ -285,11 +285,11 @@ spends_effect (Irq clear waits index) s v q r h =
 spends_effect (Set d value) s v q r h = spends_by _ _ (set_takes d value s r) (same_spent _ _ r.out_count (omega arith) (set_count d value s r))
 spends_effect Nothing s v q r h = spends_by _ _ refl (omega arith)
 
-first_of : (a b c : Bool) → (a && (b && c)) ≡ true → a ≡ true
+first_of : (a b c : Bool) → ((a && b) && c) ≡ true → a ≡ true
 first_of true b c h = refl
 first_of false b c h = cc
 
-second_of : (a b c : Bool) → (a && (b && c)) ≡ true → b ≡ true
+second_of : (a b c : Bool) → ((a && b) && c) ≡ true → b ≡ true
 second_of true true c h = refl
 second_of true false c h = cc
 second_of false b c h = cc

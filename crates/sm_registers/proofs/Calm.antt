@@ -33,19 +33,18 @@ use Rattle.sm_registers.specs.declared.intent.Kind.TheVariants.{First, Late, Del
 use Rattle.sm_registers.specs.Intents.{no_intent}
 use Rattle.sm_registers.specs.Laws.{IsAlike, bit_of, read_of, jmp_reads, wait_reads, in_reads, mov_reads, irq_reads}
 use Rattle.sm_registers.specs.Idling.{is_unmet, stays, undelayed, waits_again}
-use Rattle.sm_registers.specs.Effects.{Effect, quiet, stall, has_polarity, waited_bit, waited_flag, jmp_effect, wait_effect, in_effect, autopushed, out_to, out_effect, push_effect, pulled, pull_effect, mov_to, mov_effect, operated, irq_effect, set_effect, effect_of}
+use Rattle.sm_registers.specs.Effects.{Effect, is_due, quiet, stall, has_polarity, waited_bit, waited_flag, jmp_effect, wait_effect, in_effect, autopushed, out_to, out_effect, push_effect, pulled, pull_effect, mov_to, mov_effect, operated, irq_effect, set_effect, effect_of}
 use Rattle.sm_registers.specs.Rules.{current_act}
 use Rattle.sm_registers.specs.Tick.{current_word, after_effect, refills, refilled, osr_filled_from, side_writes, tick_delay, tick_by, tick_word, tick_of}
 
 -- without a refill the registers stay
-unfilled : (a b : Bool) (front : Option ℕ) (r : Registers) → (a && (b && is_some front)) ≡ false → cond (a && b) (osr_filled_from front r) r ≡ r
-unfilled false b front r h = refl
-unfilled true false front r h = refl
-unfilled true true None r h = refl
-unfilled true true (Some word) r h = cc
+unfilled : (due : Bool) (front : Option ℕ) (r : Registers) → (due && is_some front) ≡ false → cond due (osr_filled_from front r) r ≡ r
+unfilled false front r h = refl
+unfilled true None r h = refl
+unfilled true (Some word) r h = cc
 
 unrefilled : (s : MachineSetup) (q : Queues) (r : Registers) → refills s q r ≡ false → refilled s q r ≡ r
-unrefilled s q r h = unfilled s.autopull (nat_le s.pull_threshold r.out_count) q.front r h
+unrefilled s q r h = unfilled (is_due s r) q.front r h
 
 -- a tick of a delay is that of tick_delay
 delays : (s : MachineSetup) (v : View) (q : Queues) (r : Registers) → 0 < r.delay → tick_of s v q r ≡ tick_delay s q r

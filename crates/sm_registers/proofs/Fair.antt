@@ -17,7 +17,7 @@ use Rattle.sm_registers.specs.declared.registers.Registers.{Registers}
 use Rattle.sm_registers.specs.View.{View}
 use Rattle.sm_registers.specs.Queues.{Queues}
 use Rattle.sm_registers.specs.Laws.{IsFair}
-use Rattle.sm_registers.specs.Effects.{Effect, jmp_effect, wait_effect, in_effect, autopushed, out_to, out_effect, push_effect, pulled, pull_effect, mov_to, mov_effect, irq_effect, set_effect, effect_of}
+use Rattle.sm_registers.specs.Effects.{Effect, is_due, jmp_effect, wait_effect, in_effect, autopushed, out_to, out_effect, push_effect, pulled, pull_effect, mov_to, mov_effect, irq_effect, set_effect, effect_of}
 use Rattle.sm_registers.specs.declared.intent.Intent.{Intent}
 use Rattle.sm_registers.specs.State.{queues_of}
 use Rattle.sm_registers.specs.Tick.{current_word, after_effect, refills, tick_delay, tick_by, tick_word, tick_of}
@@ -84,14 +84,13 @@ fair_effect (Irq clear waits index) s v q r = search (rules, fair_if, fair_none)
 fair_effect (Set d value) s v q r = fair_set d value s q r
 fair_effect Nothing s v q r = fair_none q _ refl refl
 
-both : (a b c : Bool) → (a && (b && c)) ≡ true → c ≡ true
-both true true c h = h
-both true false c h = cc
-both false b c h = cc
+second_of : (a b : Bool) → (a && b) ≡ true → b ≡ true
+second_of true b h = h
+second_of false b h = cc
 
 -- a refill needs a word
 refill_has_word : (s : MachineSetup) (q : Queues) (r : Registers) → refills s q r ≡ true → is_some q.front ≡ true
-refill_has_word s q r h = both s.autopull (nat_le s.pull_threshold r.out_count) _ h
+refill_has_word s q r h = second_of (is_due s r) _ h
 
 either : (a b c : Bool) → (a ≡ true → c ≡ true) → (b ≡ true → c ≡ true) → (a || b) ≡ true → c ≡ true
 either true b c h k e = h refl

@@ -16,7 +16,7 @@ use Rattle.sm_registers.specs.declared.registers.Registers.{Registers}
 use Rattle.sm_registers.specs.View.{View}
 use Rattle.sm_registers.specs.Queues.{Queues}
 use Rattle.sm_registers.specs.Laws.{TakesInto, GivesAll}
-use Rattle.sm_registers.specs.Effects.{Effect, osr_filled, jmp_effect, wait_effect, in_effect, autopushed, out_to, out_effect, push_effect, pulled, pull_effect, mov_to, mov_effect, irq_effect, set_effect, effect_of}
+use Rattle.sm_registers.specs.Effects.{Effect, is_due, osr_filled, jmp_effect, wait_effect, in_effect, autopushed, out_to, out_effect, push_effect, pulled, pull_effect, mov_to, mov_effect, irq_effect, set_effect, effect_of}
 use Rattle.sm_registers.specs.Tick.{osr_filled_from, refilled, current_word, after_effect, refills, tick_delay, tick_by, tick_word, tick_of}
 
 -- a word that an effect takes fills the OSR, and one that it gives leaves an empty ISR
@@ -108,10 +108,9 @@ after_keeps d s r e =
     (record { osr = refl; out_count = refl; isr = refl; in_count = refl })
 
 -- a refill, where it is, and where it isn't
-filled_from : (a b : Bool) (front : Option ℕ) (r : Registers) (w : ℕ) → (a && (b && is_some front)) ≡ true → front ≡ Some w → cond (a && b) (osr_filled_from front r) r ≡ osr_filled w r
-filled_from true true front r w h k = ap (λ f. osr_filled_from f r) k
-filled_from true false front r w h k = cc
-filled_from false b front r w h k = cc
+filled_from : (due : Bool) (front : Option ℕ) (r : Registers) (w : ℕ) → (due && is_some front) ≡ true → front ≡ Some w → cond due (osr_filled_from front r) r ≡ osr_filled w r
+filled_from true front r w h k = ap (λ f. osr_filled_from f r) k
+filled_from false front r w h k = cc
 
 unfilled : (a b : Bool) (x r : Registers) → b ≡ false → cond (a && b) x r ≡ r
 unfilled true true x r h = cc
@@ -125,7 +124,7 @@ full_stays s q r h =
     unfilled s.autopull (nat_le s.pull_threshold r.out_count) _ r below
 
 refill_fills : (s : MachineSetup) (q : Queues) (r : Registers) (w : ℕ) → refills s q r ≡ true → q.front ≡ Some w → refilled s q r ≡ osr_filled w r
-refill_fills s q r w h k = filled_from s.autopull (nat_le s.pull_threshold r.out_count) q.front r w h k
+refill_fills s q r w h k = filled_from (is_due s r) q.front r w h k
 
 filled_keeps_isr : (front : Option ℕ) (r : Registers) → (osr_filled_from front r).isr ≡ r.isr
 filled_keeps_isr None r = refl

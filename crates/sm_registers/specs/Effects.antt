@@ -195,10 +195,14 @@ starves q = q.tx_level == 0
 abbrev pub bits_out_to : OutDestination → ℕ → MachineSetup → Registers → Effect
 bits_out_to destination n s r = out_to destination (shifted_out r.osr n s.out_right).0 n s (with_bits_out n s r)
 
--- With autopull, OUT stalls where the OSR's count has reached the threshold (section 3.5.4).
+-- autopull is due: the OSR's count has reached the threshold (section 3.5.4)
+abbrev pub is_due : MachineSetup → Registers → Bool
+is_due s r = s.autopull && nat_le s.pull_threshold r.out_count
+
+-- OUT stalls where autopull is due (section 3.5.4).
 unfoldable pub out_effect : OutDestination → ℕ → MachineSetup → Queues → Registers → Effect
 out_effect destination n s q r =
-    if s.autopull && nat_le s.pull_threshold r.out_count
+    if is_due s r
     then record (stall r) { sticky = if starves q then TX_STALL else 0 }
     else bits_out_to destination n s r
 

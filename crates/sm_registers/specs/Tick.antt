@@ -6,7 +6,7 @@
 --   tick_delay       a tick of a delay
 --   tick_word        a tick of an instruction
 --   tick_of          a tick
-use Rattle.std.specs.Prelude.{ℕ, ◌+◌, ◌-◌, ◌%◌, ◌==◌, nat_lt, nat_le, Bool, true, false, ◌&&◌, ◌||◌, if◌then◌else◌, Option, Some, None, is_some, [], ◌∷◌, slice_index}
+use Rattle.std.specs.Prelude.{ℕ, ◌+◌, ◌-◌, ◌%◌, ◌==◌, nat_lt, Bool, true, false, ◌&&◌, ◌||◌, if◌then◌else◌, Option, Some, None, is_some, [], ◌∷◌, slice_index}
 use Rattle.pio_encode.specs.declared.op.Op.{Op}
 use Rattle.pio_encode.specs.Word.{reading_of}
 use Rattle.pin_matrix.specs.Pins.{writes_of}
@@ -17,7 +17,7 @@ use Rattle.sm_registers.specs.Queues.{Queues}
 use Rattle.sm_registers.specs.declared.intent.Intent.{Intent}
 use Rattle.sm_registers.specs.declared.intent.Kind.TheVariants.{First, Late, Delay}
 use Rattle.sm_registers.specs.Intents.{no_intent}
-use Rattle.sm_registers.specs.Effects.{Effect, osr_filled, effect_of}
+use Rattle.sm_registers.specs.Effects.{Effect, is_due, osr_filled, effect_of}
 
 -- the address after another: the program wraps after wrap_top (section 3.5.2), and the memory after 31
 abbrev pub next_after : MachineSetup → (address : ℕ) → ℕ
@@ -59,10 +59,9 @@ after_effect delay s r e = let done = e.registers in
       begun = false;
     }
 
--- Autopull fills the OSR where its count has reached the threshold and TX has a word: in any tick, after what the tick does
--- (section 3.5.4; that every tick refills, and by its own count, is a choice of this profile)
+-- Autopull fills the OSR where it is due and TX has a word: in any tick, after what the tick does (section 3.5.4; that every tick refills, and by its own count, is a choice of this profile)
 abbrev pub refills : MachineSetup → Queues → Registers → Bool
-refills s q r = s.autopull && (nat_le s.pull_threshold r.out_count && is_some q.front)
+refills s q r = is_due s r && is_some q.front
 
 -- OSR from the front of TX, unchanged where TX is empty
 abbrev pub osr_filled_from : Option ℕ → Registers → Registers
@@ -71,7 +70,7 @@ osr_filled_from (Some word) r = osr_filled word r
 
 -- the registers after the refill of a tick, where it is due (section 3.5.4)
 abbrev pub refilled : MachineSetup → Queues → Registers → Registers
-refilled s q r = if s.autopull && nat_le s.pull_threshold r.out_count then osr_filled_from q.front r else r
+refilled s q r = if is_due s r then osr_filled_from q.front r else r
 
 -- The pins that side-set writes, by the mapping of the setup: in the first tick of an instruction, whether it stalls or not
 -- (section 3.5.1)

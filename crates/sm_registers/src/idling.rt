@@ -3,6 +3,7 @@ ghost use Rattle.std.specs.Prelude.{◌≡◌};
 ghost use Rattle.pio_encode.specs.Ranges.{IsInRange};
 ghost use Rattle.sm_registers.specs.Idling as spec;
 ghost use Rattle.sm_registers.specs.Ranges.{IsPlaced};
+ghost use Rattle.sm_registers.specs.Rules as spec_rules;
 ghost use Rattle.sm_registers.specs.State.{queues_of};
 ghost use Rattle.sm_registers.specs.Tick as spec_tick;
 
@@ -12,6 +13,7 @@ use crate::idle::Idle;
 use crate::instruction::effect_of;
 use crate::intent::Intent;
 use crate::registers::Registers;
+use crate::shifting::is_due;
 use crate::tick::current_word;
 use crate::view::View;
 use crate::waiting::waited_bit;
@@ -59,8 +61,19 @@ pub(crate) fn waits_again(
     if !registers.begun || setup.autopull || registers.delay > 0 {
         return false;
     }
+    is_unmet(&current_act(view, decoded, registers), setup, view)
+}
+
+/// The instruction that a tick runs, where no delay is left.
+#[inline(always)]
+#[tactic(auto, unfolding(pio_encode::specs::Word::reading_of))]
+fn current_act(view: &View, decoded: &Decoded, registers: &Registers) -> Act
+    requires { IsPlaced registers.now }
+    ensures value { result ≡ spec_rules.current_act view.now registers.now }
+    ensures act { IsInRange result }
+{
     let (place, word) = current_word(view, registers);
-    is_unmet(&decoded.act(place, word), setup, view)
+    decoded.act(place, word)
 }
 
 /// Whether an act is a WAIT whose bit hasn't the polarity.
@@ -83,7 +96,7 @@ pub(crate) fn is_unmet(act: &Act, setup: &MachineSetup, view: &View) -> bool
 pub(crate) fn refills<F: Fifo>(setup: &MachineSetup, fifos: &Pair<F>, registers: &Registers) -> bool
     ensures { result ≡ spec_tick.refills setup.now (queues_of fifos.now) registers.now }
 {
-    setup.autopull && setup.pull_threshold <= registers.out_count && fifos.tx_front().is_some()
+    is_due(setup, registers) && fifos.tx_front().is_some()
 }
 
 /// Whether the current instruction stalls as soon as no delay is left. Nothing of what it does is kept.
@@ -100,8 +113,7 @@ fn stalls_again<F: Fifo>(
     requires setup { decoded.now.setup ≡ setup.now }
     ensures { result ≡ (spec.undelayed setup.now view.now (queues_of fifos.now) registers.now).stalled }
 {
-    let (place, word) = current_word(view, registers);
-    let act = decoded.act(place, word);
+    let act = current_act(view, decoded, registers);
     let mut undelayed = Registers {
         delay: 0,
         ..*registers

@@ -1,6 +1,7 @@
 //! The output levels and directions in the course of a clock.
 ghost use Rattle.std.specs.Prelude.{◌≡◌, ℕ, true};
-ghost use Rattle.pin_matrix.specs.Pins.{IsWrite, merged, written};
+ghost use Rattle.pin_matrix.specs.Pins as spec;
+ghost use Rattle.pin_matrix.specs.Pins.{IsWrite, merged};
 ghost use Rattle.sm_registers.specs.Ends.{end_level, end_direction, written_end, written_side};
 ghost use Rattle.sm_registers.specs.Intents.{two_writes, written_by};
 ghost use Rattle.sm_registers.specs.Plans.{side_level, side_direction};
@@ -41,8 +42,8 @@ impl Outputs {
         ensures { self.new ≡ written_end end self.old }
     {
         match end {
-            End::Levels(write) => self.write_levels(write),
-            End::Directions(write) => self.write_directions(write),
+            End::Levels(write) => self.levels = written(self.levels, write),
+            End::Directions(write) => self.directions = written(self.directions, write),
             _ => {}
         }
     }
@@ -56,32 +57,21 @@ impl Outputs {
     {
         match side {
             Side::Nothing => {}
-            Side::Levels(write) => self.write_levels(write),
-            Side::Directions(write) => self.write_directions(write),
+            Side::Levels(write) => self.levels = written(self.levels, write),
+            Side::Directions(write) => self.directions = written(self.directions, write),
         }
     }
+}
 
-    /// Writes levels: the pins and their bits.
-    #[inline(always)]
-    #[tactic(auto, using(crate::proofs::Written::masked))]
-    fn write_levels(&mut self, write: (u32, u32))
-        requires { IsWrite write }
-        ensures { self.new ≡ record self.old { levels = written self.old.levels write } }
-    {
-        let (pins, bits) = write;
-        self.levels = bits | (self.levels & !pins);
-    }
-
-    /// Writes directions.
-    #[inline(always)]
-    #[tactic(auto, using(crate::proofs::Written::masked))]
-    fn write_directions(&mut self, write: (u32, u32))
-        requires { IsWrite write }
-        ensures { self.new ≡ record self.old { directions = written self.old.directions write } }
-    {
-        let (pins, bits) = write;
-        self.directions = bits | (self.directions & !pins);
-    }
+/// Pins after a write: the pins that it is of, and their bits.
+#[inline(always)]
+#[tactic(auto, using(crate::proofs::Written::masked))]
+fn written(pins: u32, write: (u32, u32)) -> u32
+    requires { IsWrite write }
+    ensures { result ≡ spec.written pins write }
+{
+    let (mask, bits) = write;
+    bits | (pins & !mask)
 }
 
 /// Whether two writes are of no pins, as most are.

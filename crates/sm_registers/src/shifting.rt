@@ -101,7 +101,15 @@ pub(crate) fn empty_isr(registers: &mut Registers)
     registers.in_count = 0;
 }
 
-/// Shifts bits out; with autopull it stalls where the OSR is empty by its threshold.
+/// Whether autopull is due: the OSR's count has reached the threshold.
+#[inline(always)]
+pub(crate) fn is_due(setup: &MachineSetup, registers: &Registers) -> bool
+    ensures { result ≡ spec.is_due setup.now registers.now }
+{
+    setup.autopull && setup.pull_threshold <= registers.out_count
+}
+
+/// Shifts bits out; where autopull is due, it stalls.
 #[inline(always)]
 #[tactic(auto, unfolding(crate::specs::Effects::out_effect))]
 pub(crate) fn out_effect<F: Fifo>(
@@ -118,7 +126,7 @@ pub(crate) fn out_effect<F: Fifo>(
     ensures { effect_by registers.new intent.new result
         ≡ spec.out_effect destination count setup.now (queues_of fifos.now) registers.old }
 {
-    if setup.autopull && setup.pull_threshold <= registers.out_count {
+    if is_due(setup, registers) {
         intent.sticky = if fifos.tx_level() == 0 { TX_STALL } else { 0 };
         return End::Stalls;
     }

@@ -16,6 +16,7 @@ use crate::fifo_moves::fill_osr;
 use crate::instruction::effect_of;
 use crate::intent::{Intent, Kind};
 use crate::registers::Registers;
+use crate::shifting::is_due;
 use crate::view::View;
 use fifo_pair::{Fifo, Pair};
 use pin_matrix::MachineSetup;
@@ -150,7 +151,7 @@ fn refill<F: Fifo>(setup: &MachineSetup, fifos: &Pair<F>, registers: &mut Regist
     ensures registers { registers.new ≡ spec.refilled setup.now (queues_of fifos.now) registers.old }
     ensures taken { result ≡ spec.refills setup.now (queues_of fifos.now) registers.old }
 {
-    if setup.autopull && setup.pull_threshold <= registers.out_count {
+    if is_due(setup, registers) {
         if let Some(word) = fifos.tx_front() {
             fill_osr(word, registers);
             return true;

@@ -1,8 +1,8 @@
 use Rattle.std.proofs.Common.{◌+◌, arith}
 use Rattle.idle_engine.proofs.clocks.step.Goals as goal
 
-pub rests_until-requires-then-news-clause-ready : goal.rests_until-requires-then-news-clause-ready
-rests_until-requires-then-news-clause-ready g c =
+pub next_due-requires-then-news-clause-ready : goal.next_due-requires-then-news-clause-ready
+next_due-requires-then-news-clause-ready g c =
     c.is_of_its_kind.ensures.waits c.args.ports.now _ c.args.clock (c.args.clock + 1) c.requires.ready (omega arith) (λ n from below. c.requires.until.rests n from (omega arith))
 
 pub returns-then-news-clause-ready : goal.returns-then-news-clause-ready

@@ -2,7 +2,7 @@ use Rattle.std.proofs.Common.{rules, arith, ◌≡◌, ℕ, ◌+◌, Bool, false
 use Rattle.std.proofs.lemmas.Result.{on_err_weaker, on_ok_weaker}
 use Rattle.sample_trace.specs.Told.{IsNext, held_to}
 use Rattle.idle_engine.specs.Kinds.{IsUntil, shown_at}
-use Rattle.idle_engine.proofs.Held.{IsTold, is-held, is-next, is-told, told-after, told-none}
+use Rattle.idle_engine.proofs.RepeatedSamples.{IsTold, is-held, is-next, is-told, told-after, told-none}
 use Rattle.idle_engine.proofs.Leaping.{IsAfterLeap, after_leap, course-next, in_clocks, shown-next, shows-again}
 use Rattle.idle_engine.proofs.Working.{worked-grows, worked-later, worked-none}
 use Rattle.idle_engine.proofs.simulation.run.Given.{Over}
@@ -36,7 +36,7 @@ clocks-init g c =
       lines = refl;
       ready = c.requires.ready;
       within = omega arith;
-      until = c.rests_until-until.ensures;
+      until = c.next_due-until.ensures;
       stirs = λ some. absurd (omega arith);
       working = search rules;
       told = told-none (shown_at k course) course.samples c.requires.course.samples _

@@ -1,7 +1,7 @@
 use Rattle.std.proofs.Common.{◌≡◌, ℕ, ◌+◌, ◌-◌, ◌<◌, ◌≤◌, false, true, Option, List}
 use Rattle.block_core.specs.Stirring.{worked}
 use Rattle.idle_engine.specs.Kinds.{IsCourse, IsUntil, shown_at}
-use Rattle.idle_engine.proofs.Held.{IsTold}
+use Rattle.idle_engine.proofs.RepeatedSamples.{IsTold}
 use Rattle.idle_engine.proofs.simulation.run.Given as goal
 
 -- The state is the run's in this clock, which stirs unless it is the first or the end. The trace was told of the clocks up to the

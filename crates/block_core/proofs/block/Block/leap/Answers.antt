@@ -4,14 +4,13 @@ use Rattle.block_core.specs.Block.{Run, Worked, run_from}
 use Rattle.block_core.specs.Leaps.{leapt}
 use Rattle.block_core.specs.Stirring.{moves_on}
 use Rattle.block_core.proofs.Leaping.{machines_calm}
-use Rattle.block_core.proofs.LeaptRun.{CalmLaws, rests}
+use Rattle.block_core.proofs.LeaptRun.{rests}
 use Rattle.block_core.proofs.Steps.{clock-leapt}
 use Rattle.block_core.proofs.block.Block.leap.Goals as goal
 
 pub leap-requires-clause-calm : goal.leap-requires-clause-calm
 leap-requires-clause-calm g c = λ k lt.
-    let laws : CalmLaws = record { counts = c.a_calm_tick_only_counts.ensures.once; tells = c.a_calm_tick_tells_nothing_new.ensures.calm; fifos = c.a_quiet_clock_changes_nothing.ensures } in
-    machines_calm laws c.self.inside.running c.self.inside.pad c.args.clocks c.self.invariant.1 c.stalls_are_told.ensures
+    machines_calm c.a_rest_only_counts.ensures.laws c.self.inside.running c.self.inside.pad c.args.clocks c.self.invariant.1 c.a_rest_only_counts.ensures.told
     (λ j below. subst (λ (w : Worked). moves_on quiet (run_from w.run (λ c. quiet) j) ≡ false) (sym c.self.view_is) (c.requires.calm j below)) k lt
 
 pub invariant_of-self : goal.invariant_of-self
@@ -21,17 +20,15 @@ invariant_of-self g c =
 
 pub returns-clause-run : goal.returns-clause-run
 returns-clause-run g c =
-    let laws : CalmLaws = record { counts = c.a_calm_tick_only_counts.ensures.once; tells = c.a_calm_tick_tells_nothing_new.ensures.calm; fifos = c.a_quiet_clock_changes_nothing.ensures } in
     c.leap.ensures
-    ∙ sym (rests laws c.self.inside.running c.stalls_are_told.ensures c.args.clocks
+    ∙ sym (rests c.a_rest_only_counts.ensures.laws c.self.inside.running c.a_rest_only_counts.ensures.told c.args.clocks
     (λ j below. subst (λ (w : Worked). moves_on quiet (run_from w.run (λ c. quiet) j) ≡ false) (sym c.self.view_is) (c.requires.calm j below)))
     ∙ ap (λ (w : Worked). run_from w.run (λ c. quiet) c.args.clocks) c.self.view_is
 
 pub returns-clause-rests : goal.returns-clause-rests
 returns-clause-rests g c = λ k le.
-    let laws : CalmLaws = record { counts = c.a_calm_tick_only_counts.ensures.once; tells = c.a_calm_tick_tells_nothing_new.ensures.calm; fifos = c.a_quiet_clock_changes_nothing.ensures } in
     subst (λ (w : Worked). run_from w.run (λ c. quiet) k ≡ leapt k w.run) c.self.view_is
-    (rests laws c.self.inside.running c.stalls_are_told.ensures k
+    (rests c.a_rest_only_counts.ensures.laws c.self.inside.running c.a_rest_only_counts.ensures.told k
     (λ j lt. subst (λ (w : Worked). moves_on quiet (run_from w.run (λ c. quiet) j) ≡ false) (sym c.self.view_is) (c.requires.calm j (omega (arith, lt, le)))))
 
 pub returns-clause-calls : goal.returns-clause-calls

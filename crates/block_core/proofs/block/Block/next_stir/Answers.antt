@@ -4,7 +4,6 @@ use Rattle.dreq_pacing.specs.Ports.{IsFirst}
 use Rattle.block_core.specs.Block.{Worked, run_from}
 use Rattle.block_core.specs.Stirring.{moves_on}
 use Rattle.block_core.proofs.Leaping.{first_moves, moves_at_once}
-use Rattle.block_core.proofs.LeaptRun.{CalmLaws}
 use Rattle.block_core.proofs.block.Block.next_stir.Goals as goal
 
 pub returns-then-pads_change : goal.returns-then-pads_change
@@ -15,9 +14,8 @@ returns-then-pads_change g c = record {
 
 pub returns : goal.returns
 returns g c =
-    let laws : CalmLaws = record { counts = c.a_calm_tick_only_counts.ensures.once; tells = c.a_calm_tick_tells_nothing_new.ensures.calm; fifos = c.a_quiet_clock_changes_nothing.ensures } in
     record {
       first = subst (λ (w : Worked). IsFirst (λ n. moves_on quiet (run_from w.run (λ c. quiet) n)) 0 c.sooner.result) c.self.view_is
-          (first_moves laws c.self.inside.running c.self.inside.pad c.sooner.result c.self.invariant.1 (sym c.pads_change.ensures ∙ c.if-pads_change.false) c.stalls_are_told.ensures
+          (first_moves c.a_rest_only_counts.ensures.laws c.self.inside.running c.self.inside.pad c.sooner.result c.self.invariant.1 (sym c.pads_change.ensures ∙ c.if-pads_change.false) c.a_rest_only_counts.ensures.told
           (c.sooner.ensures (λ n. false) (λ n le. refl)));
     }

@@ -2,7 +2,7 @@ use Rattle.std.proofs.Common.{arith}
 use Rattle.dreq_pacing.specs.Due.{quiet}
 use Rattle.block_core.specs.Block.{run_from}
 use Rattle.block_core.specs.Stirring.{moves_on}
-use Rattle.idle_engine.proofs.one.BlockRunsSampleHostPorts.moves_after.Goals as goal
+use Rattle.idle_engine.proofs.one.BlockRunsSampleHostPorts.next_stir.Goals as goal
 
 pub returns : goal.returns
 returns g c =

@@ -3,7 +3,7 @@ use Rattle.dreq_pacing.specs.declared.due.Requests.{Requests}
 use Rattle.dreq_pacing.specs.Ports.{acts_in}
 use Rattle.idle_engine.specs.Kinds.{IsUntil}
 use Rattle.idle_engine.proofs.TwoBlocks.{until_either}
-use Rattle.idle_engine.proofs.two.TwinRunsTuple2SampleSampleTuple2HostPortsHostPorts.rests_until.Goals as goal
+use Rattle.idle_engine.proofs.two.TwinRunsTuple2SampleSampleTuple2HostPortsHostPorts.next_due.Goals as goal
 
 pub returns : goal.returns
 returns g c =

@@ -2,7 +2,7 @@ use Rattle.std.proofs.Common.{subst}
 use Rattle.dreq_pacing.specs.declared.due.Requests.{Requests}
 use Rattle.dreq_pacing.specs.Ports.{acts_in}
 use Rattle.idle_engine.specs.Kinds.{IsUntil}
-use Rattle.idle_engine.proofs.one.BlockRunsSampleHostPorts.rests_until.Goals as goal
+use Rattle.idle_engine.proofs.one.BlockRunsSampleHostPorts.next_due.Goals as goal
 
 pub returns : goal.returns
 returns g c =

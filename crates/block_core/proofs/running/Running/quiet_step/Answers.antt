@@ -1,28 +1,28 @@
-use Rattle.std.proofs.Common.{◌≡◌, true, false, ◌&&◌, Some, refl, ap, sym, subst, ◌∙◌}
+use Rattle.std.proofs.Common.{◌≡◌, true, false, Some, refl, ap, sym, subst, ◌∙◌}
 use Rattle.pin_matrix.specs.Pads.{seen_of}
 use Rattle.sm_registers.specs.View.{View}
 use Rattle.sm_registers.specs.Intents.{written_by}
 use Rattle.dreq_pacing.specs.Due.{quiet}
 use Rattle.block_core.specs.Block.{Run, next_over, uses_fifos_over}
-use Rattle.block_core.specs.Kept.{IsSampleOf, are_empty, is_simple_over, state_of}
+use Rattle.block_core.specs.Kept.{IsSampleOf, state_of}
 use Rattle.block_core.specs.Shown.{sample_of}
-use Rattle.block_core.specs.Slots.{is_simple, place_after, place_intent}
+use Rattle.block_core.specs.Slots.{place_after, place_intent}
 use Rattle.block_core.specs.declared.sample.Sample.{Sample}
 use Rattle.block_core.proofs.Showing.{shows_first, first_new, outputs_new}
-use Rattle.block_core.proofs.Simple.{AllEmpty, IsSimple, all_empty, simple_run, simple_uses_none, simple_shows, some_same, stays_empty}
+use Rattle.block_core.proofs.Simple.{AllEmpty, IsSimple, all_empty, simple_run, simple_uses_none, simple_shows, stays_empty}
 use Rattle.block_core.proofs.SimpleClocks.{WantsPins}
 use Rattle.block_core.proofs.Steps.{in_step_after}
 use Rattle.block_core.proofs.Told.{place_told}
 use Rattle.block_core.proofs.Wanting.{view}
-use Rattle.block_core.proofs.running.Running.simple_step.Given.{Over}
-use Rattle.block_core.proofs.running.Running.simple_step.Goals as goal
-use Rattle.block_core.proofs.running.Running.simple_step.Goals.{else-not-self-via-then-not-self+else-not-self-2, else-not-self-via-else-not-self}
+use Rattle.block_core.proofs.running.Running.quiet_step.Given.{Over}
+use Rattle.block_core.proofs.running.Running.quiet_step.Goals as goal
+use Rattle.block_core.proofs.running.Running.quiet_step.Goals.{then-self-via-then-self, then-self-via-else-self+then-self-2}
 
 -- the block knows that the other places are empty
 alone : (g : Over) (c : goal.After-show_pins g) → c.self.inside.known.alone ≡ true
-alone g c = elim c.else-not-self.branch [
-  | else-not-self-via-then-not-self+else-not-self-2 w ↦ w.if-not-self-2.false
-  | else-not-self-via-else-not-self w ↦ (c.self.invariant.2.ready w.if-not-self.false).0
+alone g c = elim c.then-self.branch [
+  | then-self-via-then-self w ↦ (c.self.invariant.2.ready w.if-self.true).0
+  | then-self-via-else-self+then-self-2 w ↦ w.if-self-2.true
 ]
 
 empty : (g : Over) (c : goal.After-show_pins g) → AllEmpty c.self.inside.second c.self.inside.third c.self.inside.fourth
@@ -36,15 +36,15 @@ simple g c =
     let b = c.self.inside in
     let sees = c.new-view.ensures in
     let v = view b.shared.memory (seen_of b.shared.sync.bypass c.args.pad b.shared.sync.pad_2) b.shared.flags.up in
-    let made = c.simple_clock-tried.ensures.done (sym c.is_done.ensures ∙ c.if-not-is_done.false) in record {
+    let made = c.simple_clock-tried.ensures.done (sym c.is_done.ensures ∙ c.if-is_done.true) in record {
       sees = refl;
       after = ap Some made.after ∙ ap (λ (w : View). place_after w quiet (Some c.in-Some.first)) sees ∙ ap (place_after v quiet) (sym c.in-Some.is);
       outputs = made.outputs ∙ ap (λ (w : View). written_by b.wanted.outputs (place_intent w quiet (Some c.in-Some.first))) sees ∙ ap (λ s. written_by b.wanted.outputs (place_intent v quiet s)) (sym c.in-Some.is);
       wants = subst (λ s. WantsPins (place_intent v quiet s)) (sym c.in-Some.is) (subst (λ (w : View). WantsPins (place_intent w quiet (Some c.in-Some.first))) sees made.wants);
     }
 
-pub invariant_of-self-2 : goal.invariant_of-self-2
-invariant_of-self-2 g c =
+pub invariant_of-self : goal.invariant_of-self
+invariant_of-self g c =
     let b = c.self.inside in
     let v = view b.shared.memory (seen_of b.shared.sync.bypass c.args.pad b.shared.sync.pad_2) b.shared.flags.up in
     let kept = c.self.invariant.0 in
@@ -77,29 +77,21 @@ invariant_of-self-2 g c =
       record { alone = c.self.invariant.2.alone; ready = λ h. (alone g c, c.simple_clock-tried.ensures.next (sym c.is_ready-self-inside.ensures ∙ h)) },
     )
 
-pub returns-clause-simple : goal.returns-clause-simple
-returns-clause-simple g c =
-    let b = c.self.inside in
-    let v = view b.shared.memory (seen_of b.shared.sync.bypass c.args.pad b.shared.sync.pad_2) b.shared.flags.up in
-    subst (λ (r : Run). true ≡ is_simple_over c.args.pad r) c.self.view_is
-    (ap (λ x. x && true) (sym (sym c.self.invariant.2.alone ∙ alone g c))
-    ∙ ap (λ x. are_empty b.second b.third b.fourth && x) (sym (sym c.is_done.ensures ∙ c.if-not-is_done.false) ∙ c.simple_clock-tried.ensures.simple ∙ ap (λ (w : View). is_simple w (Some c.in-Some.first)) c.new-view.ensures ∙ ap (is_simple v) (sym c.in-Some.is)))
-
-pub returns-clause-run : goal.returns-clause-run
-returns-clause-run g c = λ done.
+pub returns-then-is_done-clause-run : goal.returns-then-is_done-clause-run
+returns-then-is_done-clause-run g c =
     let b = c.self.inside in
     simple_run b.shared.memory b.clock b.wanted.outputs.levels b.wanted.outputs.directions b.shared.flags.up b.outside b.shared.sync c.step.new.self c.args.pad _ b.first b.second b.third b.fourth (Some c.simple_clock-tried.new.self) c.simple_clock-tried.new.outputs (empty g c) (simple g c) c.step.ensures
     ∙ ap (next_over c.args.pad quiet) c.self.view_is
 
-pub returns-clause-used : goal.returns-clause-used
-returns-clause-used g c = λ done.
+pub returns-then-is_done-clause-fifos : goal.returns-then-is_done-clause-fifos
+returns-then-is_done-clause-fifos g c =
     let b = c.self.inside in
-    subst (λ (r : Run). uses_fifos_over c.args.pad quiet r ≡ false) c.self.view_is
+    subst (λ (r : Run). false ≡ uses_fifos_over c.args.pad quiet r) c.self.view_is
     (simple_uses_none b.shared.memory b.clock b.wanted.outputs.levels b.wanted.outputs.directions b.shared.flags.up b.outside b.shared.sync c.args.pad _ b.first b.second b.third b.fourth (Some c.simple_clock-tried.new.self) c.simple_clock-tried.new.outputs (empty g c) (simple g c))
 
-pub returns-clause-sample : goal.returns-clause-sample
-returns-clause-sample g c = λ told.
-    sym (invariant_of-self-2 g c).1.is
-    ∙ c.show_pins.ensures.same (some_same told)
+pub returns-then-is_done-clause-sample : goal.returns-then-is_done-clause-sample
+returns-then-is_done-clause-sample g c = λ told.
+    sym (invariant_of-self g c).1.is
+    ∙ c.show_pins.ensures.same told
     ∙ c.self.invariant.1.is
     ∙ ap (λ (r : Run). sample_of r.state) c.self.view_is

@@ -5,7 +5,7 @@ use Rattle.block_core.specs.Block.{Worked, run_from}
 use Rattle.block_core.specs.Stirring.{moves_on}
 use Rattle.idle_engine.specs.OneConduct.{Conducting, one_conduct}
 use Rattle.idle_engine.proofs.Conducting.{moves_from, until-same}
-use Rattle.idle_engine.proofs.conduct.ConductedRunsConductHostPorts.moves_after.Goals as goal
+use Rattle.idle_engine.proofs.conduct.ConductedRunsConductHostPorts.next_stir.Goals as goal
 
 pub returns : goal.returns
 returns g c =

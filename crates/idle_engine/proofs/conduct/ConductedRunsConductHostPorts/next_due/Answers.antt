@@ -4,7 +4,7 @@ use Rattle.dreq_pacing.specs.Ports.{acts_in}
 use Rattle.block_core.specs.Block.{Worked}
 use Rattle.block_core.specs.Shown.{requests_of}
 use Rattle.idle_engine.specs.Kinds.{IsUntil}
-use Rattle.idle_engine.proofs.conduct.ConductedRunsConductHostPorts.rests_until.Goals as goal
+use Rattle.idle_engine.proofs.conduct.ConductedRunsConductHostPorts.next_due.Goals as goal
 
 pub returns : goal.returns
 returns g c =
