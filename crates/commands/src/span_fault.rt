@@ -7,7 +7,7 @@ use pin_matrix::Span;
 use pio_encode::Name;
 use span_verdict::Flaw;
 use std::alloc::{AllocError, Global};
-use verdict_lines::Refusal;
+use span_texts::Refusal;
 
 /// The fault of the span at this place, which isn't provable, or out of memory.
 pub fn unproved(alloc: Global, place: usize, span: &Span, refusal: Refusal) -> Fault

@@ -10,8 +10,8 @@ use pio_edge::SinkFailed;
 use pio_encode::Name;
 use span_verdict::Flaw;
 use std::alloc::AllocError;
-use table_files::TableKind;
-use verdict_lines::Refusal;
+use span_texts::TableKind;
+use span_texts::Refusal;
 use word_file::WordKind;
 
 /// A file that a command reads.

@@ -6,7 +6,7 @@ use span_bounds::{Cause, Context, Table};
 use span_check::{check, recheck};
 use span_verdict::Verdict;
 use std::alloc::{AllocError, Global};
-use verdict_lines::{Finding, found_by};
+use span_texts::{Finding, found_by};
 
 /// Adds what a row says of its verdict, and the verdict.
 pub fn tell_verdict(

@@ -9,7 +9,7 @@ use pin_matrix::Follow;
 use pio_edge::Shelf;
 use span_bounds::Table;
 use std::alloc::Global;
-use table_files::{TableFault, read_table};
+use span_texts::{TableFault, read_table};
 
 /// The table of a table file, where X and Y are followed so far.
 #[tactic(auto, unfolding(crate::specs::Judged::table_at))]
