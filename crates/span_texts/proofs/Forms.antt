@@ -1,9 +1,9 @@
 -- Numbers that are cut off past every range are refused as the numbers themselves are.
-use Rattle.std.proofs.Common.{◌≡◌, ℕ, ◌<◌, ◌≤◌, ◌==◌, ◌&&◌, nat_le, nat_lt, Bool, true, false, Option, Some, None, List, [], ◌∷◌, Err, refl, ap, ◌∙◌, inl, inr, arith}
+use Rattle.std.proofs.Common.{◌≡◌, ℕ, ◌<◌, ◌≤◌, ◌==◌, nat_le, false, Option, Some, None, List, [], ◌∷◌, Err, refl, sym, ap, ◌∙◌, inl, inr, arith}
 use Rattle.std.specs.Prelude.{option_map}
-use Rattle.std.proofs.lemmas.Bool.{cases_lt}
+use Rattle.std.proofs.lemmas.Bool.{and_right, cases_lt, le-ltb, lt-leb}
 use Rattle.std.proofs.lemmas.Bool.Decides.{nat_tests}
-use Rattle.std.proofs.lemmas.Option.{same_Some}
+use Rattle.std.proofs.lemmas.Option.{none-some, same_Some}
 use Rattle.pin_matrix.specs.declared.assume.Follow.{Follow}
 use Rattle.span_step.specs.declared.ages.Ages.{Ages}
 use Rattle.span_step.specs.declared.ages.Ages.TheVariants.{Empty, Between}
@@ -58,23 +58,17 @@ same n l = omega arith
 past : (n : ℕ) → 16777217 ≤ n → capped n ≡ 16777217
 past n l = omega arith
 
-not_placed : (n : ℕ) → 16777217 ≤ n → nat_lt n 32 ≡ false
-not_placed n l = grind (arith, nat_tests)
-
 placed-capped : (n : ℕ) → placed (capped n) ≡ placed n
 placed-capped n = elim (cases_lt n 16777217) [
   | inl lt ↦ ap placed (same n lt)
-  | inr ge ↦ rw (past n ge, not_placed n ge) refl
+  | inr ge ↦ rw (past n ge, le-ltb n 32 (omega (arith, ge))) refl
 ]
-
-not_known : (most n : ℕ) → most < 16777217 → 16777217 ≤ n → nat_le n most ≡ false
-not_known most n k l = grind (arith, nat_tests)
 
 known_placed-capped : (most : ℕ) (o : Option ℕ) → most < 16777217 → known_placed most (option_map capped o) ≡ known_placed most o
 known_placed-capped most None k = refl
 known_placed-capped most (Some n) k = elim (cases_lt n 16777217) [
   | inl lt ↦ ap (λ (i : ℕ). known_placed most (Some i)) (same n lt)
-  | inr ge ↦ rw (past n ge, not_known most 16777217 k (omega arith), not_known most n k ge) refl
+  | inr ge ↦ rw (past n ge, lt-leb 16777217 most k, lt-leb n most (omega (arith, k, ge))) refl
 ]
 
 not_level : (n m : ℕ) → 16777217 ≤ n → m ≤ 1 → (n == m) ≡ false
@@ -86,21 +80,14 @@ level_of-capped n = elim (cases_lt n 16777217) [
   | inr ge ↦ rw (past n ge, not_level n 0 ge (omega arith), not_level n 1 ge (omega arith)) refl
 ]
 
-not_within : (n m : ℕ) → m < n → nat_le n m ≡ false
-not_within n m l = grind (arith, nat_tests)
-
-and_no : (b : Bool) → (b && false) ≡ false
-and_no true = refl
-and_no false = refl
-
 ages_placed-capped : (a : Ages) → ages_placed (capped_ages a) ≡ ages_placed a
 ages_placed-capped Empty = refl
 ages_placed-capped (Between lo hi) = elim (cases_lt hi 16777217) [
   | inl near ↦ elim (cases_lt lo 16777217) [
     | inl lt ↦ rw (same lo lt, same hi near) refl
-    | inr ge ↦ rw (past lo ge, same hi near, not_within 16777217 hi near, not_within lo hi (omega arith)) refl
+    | inr ge ↦ rw (past lo ge, same hi near, lt-leb 16777217 hi near, lt-leb lo hi (omega arith)) refl
   ]
-  | inr far ↦ rw (past hi far, not_within hi 16777216 (omega arith), and_no (nat_le (capped lo) 16777217), and_no (nat_le lo hi)) refl
+  | inr far ↦ rw (past hi far, lt-leb hi 16777216 (omega arith), and_right (nat_le (capped lo) 16777217) false refl, and_right (nat_le lo hi) false refl) refl
 ]
 
 -- X and Y are followed up to no more than numbers are read
@@ -114,15 +101,11 @@ row_of-capped d s k = rw (placed-capped s.address, known_placed-capped d.x s.x k
 -- a line that says nothing
 pub none_said : (d : Follow) (least : ℕ) (o : Option Said) → None ≡ option_map capped_said o → Err BadLine ≡ row_from d least o
 none_said d least None e = refl
-none_said d least (Some s) e = absurd (bad e) where
-  bad : {A : Type 0} {x : A} → None ≡ Some x → ⊥
-  bad e = cc
+none_said d least (Some s) e = absurd (none-some _ e)
 
 -- a line that says this
 pub some_said : (d : Follow) (least : ℕ) (o : Option Said) (s : Said) → AreRead d → Some s ≡ option_map capped_said o → in_order d least (row_of d s) ≡ row_from d least o
-some_said d least None s k e = absurd (bad e) where
-  bad : {A : Type 0} {x : A} → Some x ≡ None → ⊥
-  bad e = cc
+some_said d least None s k e = absurd (none-some _ (sym e))
 some_said d least (Some t) s k e =
     let h : s ≡ capped_said t = same_Some s (capped_said t) e in
     ap (λ (r : Option Row). in_order d least r) (ap (row_of d) h ∙ row_of-capped d t k)

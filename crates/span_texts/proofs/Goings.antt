@@ -5,6 +5,7 @@ use Rattle.std.specs.List.{onto_first}
 use Rattle.std.specs.Str.{bytes_eq}
 use Rattle.std.proofs.lemmas.Bool.{cases_Bool}
 use Rattle.std.proofs.lemmas.List.Splits.{slice_split-cons_yes, slice_split-cons_no}
+use Rattle.std.proofs.lemmas.Option.{none-some}
 use Rattle.answers.specs.Answers.{Refuses}
 use Rattle.byte_lines.specs.Lines.{lines_of, lines_left, left_size}
 use Rattle.pin_matrix.specs.declared.assume.Follow.{Follow}
@@ -15,7 +16,7 @@ use Rattle.span_texts.specs.declared.fault.TableKind.{TableKind}
 use Rattle.span_texts.specs.declared.fault.TableKind.TheVariants.{BadLine}
 use Rattle.span_texts.specs.Faults.{TableRefusal}
 use Rattle.span_texts.specs.TableLines.{row_at}
-use Rattle.span_texts.specs.Reading.{end_line, wrong_at, left_open, ended, with_row, rows_from}
+use Rattle.span_texts.specs.Reading.{end_line, wrong_at, ended, with_row, rows_from}
 
 -- a text has a first line
 pub lines_cons : (text : List ℕ) → (first : List ℕ) × (rest : List (List ℕ)) × (lines_of text ≡ first ∷ rest)
@@ -50,23 +51,9 @@ with_rows front (Err refusal) = Err refusal
 abbrev pub going_from : Follow → List Row → ℕ → ℕ → List (List ℕ) → Result (List Row) TableRefusal
 going_from d front number least lines = with_rows front (rows_from d number least lines)
 
-pub with_rows-nil : (front : List Row) (r : Result (List Row) TableRefusal) → front ≡ [] → with_rows front r ≡ r
-with_rows-nil front (Ok rows) e = rw e refl
-with_rows-nil front (Err refusal) e = refl
-
 with_rows-more : (front : List Row) (r : Row) (d : Result (List Row) TableRefusal) → with_rows (front ++ r ∷ []) d ≡ with_rows front (with_row r d)
 with_rows-more front r (Ok rows) = ap (λ (rs : List Row). Ok rs) (append_assoc front (r ∷ []) rows)
 with_rows-more front r (Err refusal) = refl
-
-open_same : (front : List Row) (number : ℕ) (last : List ℕ) → with_rows front (left_open number last) ≡ left_open number last
-open_same front number [] = refl
-open_same front number (b ∷ bs) = refl
-
--- after the last newline
-pub last_line : (d : Follow) (front : List Row) (number least : ℕ) (line : List ℕ) (all : Result (List Row) TableRefusal) (o : Option TableRefusal)
-    → going_from d front number least (line ∷ []) ≡ all → Refuses o (left_open number line) → Refuses o all
-last_line d front number least line all o whole h =
-    subst (λ (d : Result (List Row) TableRefusal). Refuses o d) (sym (open_same front number line) ∙ whole) h
 
 -- the line `end`
 pub end_line_in : (d : Follow) (front : List Row) (number least : ℕ) (line text : List ℕ) (all : Result (List Row) TableRefusal) → bytes_eq line end_line ≡ true
@@ -79,11 +66,6 @@ end_line_in d front number least line text all e whole =
 -- nothing comes after `end`
 pub ends_ok : (front : List Row) (d all : Result (List Row) TableRefusal) → with_rows front d ≡ all → d ≡ Ok [] → all ≡ Ok front
 ends_ok front d all whole h = sym whole ∙ ap (with_rows front) h ∙ ap (λ (rs : List Row). Ok rs) (append-nil front)
-
--- something does
-pub ends_err : (front : List Row) (o : Option TableRefusal) (d all : Result (List Row) TableRefusal) → with_rows front d ≡ all → Refuses o d → Refuses o all
-ends_err front None d all whole h = tt
-ends_err front (Some r) d all whole h = sym whole ∙ ap (with_rows front) h
 
 -- a faulty line
 pub bad_line_in : (d : Follow) (front : List Row) (number least : ℕ) (line text : List ℕ) (kind : TableKind) (all : Result (List Row) TableRefusal) → bytes_eq line end_line ≡ false
@@ -128,9 +110,7 @@ kept d front new number least above rest after text next line r all is first mor
 
 -- the lines that are left are fewer
 pub left_on : (after : Option (Bor (List ℕ))) (next : Bor (List ℕ)) (n : ℕ) → after ≡ Some next → IfSome after (λ b. length b.now < n) → left_size (option_copied after) ≤ n
-left_on None next n e h = absurd (bad e) where
-  bad : {A : Type 0} {x : A} → None ≡ Some x → ⊥
-  bad e = cc
+left_on None next n e h = absurd (none-some _ e)
 left_on (Some b) next n e h = omega (arith, h)
 
 -- all rows come before a number

@@ -1,5 +1,6 @@
 -- The ages of a least closed table are in range: with those out of range cut off, a closed table is closed.
-use Rattle.std.proofs.Common.{◌≡◌, ℕ, ◌+◌, ◌*◌, ◌/◌, ◌^◌, ◌<◌, ◌≤◌, ◌==◌, nat_le, min, cond, Bool, true, false, List, [], ◌∷◌, map, Option, Some, None, refl, sym, ap, subst, ◌∙◌, arith}
+use Rattle.std.proofs.Common.{◌≡◌, ℕ, ◌+◌, ◌<◌, ◌≤◌, ◌==◌, nat_le, min, cond, Bool, true, false, List, [], ◌∷◌, map, refl, sym, ap, subst, ◌∙◌, arith}
+use Rattle.std.proofs.lemmas.Bool.{eq-eqb}
 use Rattle.std.proofs.lemmas.Bool.Decides.{nat_tests}
 use Rattle.pin_matrix.specs.Followed.{followed}
 use Rattle.pin_matrix.specs.declared.assume.Follow.{Follow}
@@ -153,9 +154,6 @@ module _ (monotone : IsMonotone) (capped : IsCapped) (u : Setup) (sp : Span) whe
       let e : entry_at d (map (fixed_row most) all) (number_of d r.context) ≡ Present (fixed most r.ages) = entry_at-fixed d most all (number_of d r.context) ∙ ap (fixed_entry most) k.0 in
       (told most r.ages l (subst (LiesAt r.ages) e h.0), told_rows all rs l h.1 k.1)
 
-same_number : (n : ℕ) → (n == n) ≡ true
-same_number n = grind (arith, nat_tests)
-
 other_number : (n m : ℕ) → n < m → (n == m) ≡ false
 other_number n m l = grind (arith, nat_tests)
 
@@ -176,7 +174,7 @@ own_entries d n [] h = tt
 own_entries d n (r ∷ rs) h =
     let later = each_above d (number_of d r.context + 1) rs h.1.1 in
     let own = own_entries d (number_of d r.context + 1) rs h.1.1 in
-    (rw (same_number (number_of d r.context)) refl, both rs r rs later own) where
+    (rw (eq-eqb (number_of d r.context) (number_of d r.context) refl) refl, both rs r rs later own) where
       both : (all : List Row) (r : Row) (ss : List Row) → EachRow (λ s. number_of d r.context + 1 < number_of d s.context + 1) ss → EachRow (λ s. entry_at d all (number_of d s.context) ≡ Present s.ages) ss
           → EachRow (λ s. entry_at d (r ∷ all) (number_of d s.context) ≡ Present s.ages) ss
       both all r [] h k = tt

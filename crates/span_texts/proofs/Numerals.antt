@@ -1,30 +1,19 @@
 -- A field that is a number is that number's decimal text.
-use Rattle.std.proofs.Common.{◌≡◌, ℕ, ◌+◌, ◌-◌, ◌*◌, ◌^◌, ◌<◌, ◌≤◌, nat_lt, nat_le, nat_eq, cond, ◌&&◌, ◌==◌, Bool, true, false, List, [], ◌∷◌, length, get_or, Option, Some, None, refl, sym, ap, ◌∙◌, codes, decimal, inl, inr, arith}
+use Rattle.std.proofs.Common.{◌≡◌, ℕ, ◌+◌, ◌-◌, ◌*◌, ◌^◌, ◌<◌, ◌≤◌, nat_lt, nat_le, cond, ◌&&◌, ◌==◌, Bool, true, false, List, [], ◌∷◌, length, get_or, Option, Some, None, refl, sym, ap, ◌∙◌, codes, decimal, inl, inr, arith}
 use Rattle.std.specs.Prelude.{option_and_then, option_map}
 use Rattle.std.specs.Str.{bytes_eq}
-use Rattle.std.proofs.lemmas.Bool.{cases_lt, cases_Bool, and_parts}
+use Rattle.std.proofs.lemmas.Bool.{cases_lt, cases_Bool}
 use Rattle.std.proofs.lemmas.Bool.Decides.{nat_tests}
 use Rattle.std.proofs.lemmas.Fmt.{decimal-digits_value}
 use Rattle.std.specs.Char.{digit_value}
 use Rattle.std.specs.Str.Parse.{AllDigits, digits_value_after}
-use Rattle.std.proofs.lemmas.Option.{same_Some}
+use Rattle.std.proofs.lemmas.Option.{none-some, same_Some}
+use Rattle.std.proofs.lemmas.Slice.Eq.{bytes_eq-Decides}
 use Rattle.byte_lines.specs.Bytes.{digit_of}
 use Rattle.span_texts.specs.TableLines.{known_in}
 use Rattle.span_texts.specs.Numbers.{number_from, number_in}
 use Rattle.span_texts.specs.Words.{known_text}
 use Rattle.span_texts.proofs.Texts.{digit_of-value, own}
-
-pub some_none : {A : Type 0} {x : A} → Some x ≡ None → ⊥
-some_none e = cc
-
-pub none_some : {A : Type 0} {x : A} → None ≡ Some x → ⊥
-none_some e = cc
-
-pub true_false : true ≡ false → ⊥
-true_false e = cc
-
-pub false_true : false ≡ true → ⊥
-false_true e = cc
 
 low_byte : (b : ℕ) → b < 48 → digit_of 10 b ≡ None
 low_byte b l =
@@ -54,9 +43,9 @@ digit_value-low b l m =
 
 digit_value-of : (b d : ℕ) → digit_of 10 b ≡ Some d → (digit_value b < 10) × (digit_value b ≡ d)
 digit_value-of b d e = elim (cases_lt b 48) [
-  | inl low ↦ absurd (none_some (sym (low_byte b low) ∙ e))
+  | inl low ↦ absurd (none-some _ (sym (low_byte b low) ∙ e))
   | inr from ↦ elim (cases_lt 57 b) [
-    | inl high ↦ absurd (none_some (sym (high_byte b high) ∙ e))
+    | inl high ↦ absurd (none-some _ (sym (high_byte b high) ∙ e))
     | inr to ↦ (
         let v : digit_value b ≡ b - 48 = digit_value-low b from to in
         let small : digit_value b < 10 = omega (arith, v) in
@@ -67,7 +56,7 @@ digit_value-of b d e = elim (cases_lt b 48) [
 -- one more digit
 digit_first : (v n b : ℕ) (bs : List ℕ) (o : Option ℕ) → digit_of 10 b ≡ o → option_and_then (λ d. number_from (v * 10 + d) bs) o ≡ Some n
     → ((w : ℕ) → number_from w bs ≡ Some n → AllDigits 10 bs × (digits_value_after 10 w bs ≡ n)) → AllDigits 10 (b ∷ bs) × (digits_value_after 10 v (b ∷ bs) ≡ n)
-digit_first v n b bs None p e more = absurd (none_some e)
+digit_first v n b bs None p e more = absurd (none-some _ e)
 digit_first v n b bs (Some d) p e more =
     let q = digit_value-of b d p in
     let r = more (v * 10 + d) e in
@@ -84,33 +73,21 @@ numeral n ds h e l z =
     ap decimal (sym p.1) ∙ decimal-digits_value own ds p.0 l z (omega (arith, p.1, h))
 
 pub decimal-number_in : (n : ℕ) (ds : List ℕ) → n < 2 ^ 64 → number_in ds ≡ Some n → decimal n ≡ ds
-decimal-number_in n [] h e = absurd (none_some e)
+decimal-number_in n [] h e = absurd (none-some _ e)
 decimal-number_in n (b ∷ []) h e = numeral n (b ∷ []) h e (omega arith) (λ z. refl)
 decimal-number_in n (b ∷ c ∷ ds) h e = elim (cases_Bool (b == 48)) [
-  | inl yes' ↦ absurd (none_some (rw yes' at e))
+  | inl yes' ↦ absurd (none-some _ (rw yes' at e))
   | inr no' ↦ numeral n (b ∷ c ∷ ds) h (rw no' at e) (omega arith) (λ z. absurd (other b no' z))
 ] where
   other : (b : ℕ) → (b == 48) ≡ false → b ≡ 48 → ⊥
   other b p q = grind (arith, nat_tests)
-
-same_byte : (x y : ℕ) → nat_eq x y ≡ true → x ≡ y
-same_byte x y e = grind (arith, nat_tests)
-
--- texts that compare as equal are the same
-pub bytes_same : (xs ys : List ℕ) → bytes_eq xs ys ≡ true → xs ≡ ys
-bytes_same [] [] e = refl
-bytes_same [] (y ∷ ys) e = absurd (false_true e)
-bytes_same (x ∷ xs) [] e = absurd (false_true e)
-bytes_same (x ∷ xs) (y ∷ ys) e =
-    let p = and_parts (nat_eq x y) (bytes_eq xs ys) e in
-    ap (λ (z : ℕ). z ∷ xs) (same_byte x y p.0) ∙ ap (λ (zs : List ℕ). y ∷ zs) (bytes_same xs ys p.1)
 
 -- what is known of X or Y is known from its text
 pub known_text-known_in : (o : Option ℕ) (field : List ℕ) → ((n : ℕ) → o ≡ Some n → n < 2 ^ 64) → known_in field ≡ Some o → known_text o ≡ field
 known_text-known_in o field h e = elim (cases_Bool (bytes_eq field (codes "any"))) [
   | inl yes' ↦ (
       let p : None ≡ o = same_Some None o (any field o yes' e) in
-      ap known_text (sym p) ∙ sym (bytes_same field (codes "any") yes'))
+      ap known_text (sym p) ∙ sym ((bytes_eq-Decides field (codes "any")).0 yes'))
   | inr no' ↦ number o field h (other field o no' e)
 ] where
   any : (field : List ℕ) (o : Option ℕ) → bytes_eq field (codes "any") ≡ true → known_in field ≡ Some o → Some None ≡ Some o
@@ -122,7 +99,7 @@ known_text-known_in o field h e = elim (cases_Bool (bytes_eq field (codes "any")
   number : (o : Option ℕ) (field : List ℕ) → ((n : ℕ) → o ≡ Some n → n < 2 ^ 64) → option_map Some (number_in field) ≡ Some o → known_text o ≡ field
   number o field h e = on (number_in field) refl where
     on : (p : Option ℕ) → number_in field ≡ p → known_text o ≡ field
-    on None q = absurd (none_some (rw q at e))
+    on None q = absurd (none-some _ (rw q at e))
     on (Some n) q =
         let s : Some n ≡ o = same_Some (Some n) o (rw q at e) in
         ap known_text (sym s) ∙ decimal-number_in n field (h n (sym s)) q

@@ -2,11 +2,12 @@
 use Rattle.std.proofs.Common.{◌≡◌, ℕ, ◌+◌, ◌^◌, ◌<◌, ◌≤◌, nat_lt, nat_le, cond, ◌&&◌, ◌==◌, Bool, true, false, List, [], ◌∷◌, ◌++◌, Option, Some, None, Result, Ok, Err, refl, sym, ap, subst, ◌∙◌, append_assoc, codes, decimal, inl, inr, arith}
 use Rattle.std.specs.List.{join_with_byte}
 use Rattle.std.specs.Str.{bytes_eq}
-use Rattle.std.proofs.lemmas.Bool.{cases_Bool, and_parts}
+use Rattle.std.proofs.lemmas.Bool.{cases_Bool, and_parts, leb-true}
 use Rattle.std.proofs.lemmas.Bool.Decides.{nat_tests}
 use Rattle.std.proofs.lemmas.Fmt.{decimal_digit}
 use Rattle.std.proofs.lemmas.List.Splits.{join_with_byte-slice_split}
-use Rattle.std.proofs.lemmas.Option.{same_Some}
+use Rattle.std.proofs.lemmas.Option.{cond_some, none-some, same_Some}
+use Rattle.std.proofs.lemmas.Slice.Eq.{bytes_eq-Decides}
 use Rattle.byte_lines.specs.Lines.{lines_of}
 use Rattle.pin_matrix.specs.declared.assume.Follow.{Follow}
 use Rattle.span_step.specs.declared.ages.Ages.{Ages}
@@ -24,7 +25,7 @@ use Rattle.span_texts.specs.Reading.{head_line, end_line, left_open, ended, with
 use Rattle.span_texts.specs.Rows.{row_line, row_lines, table_text}
 use Rattle.span_texts.specs.Words.{known_text, level_text}
 use Rattle.span_texts.specs.Told.{IsAgeRange, HaveAgeRanges}
-use Rattle.span_texts.proofs.Numerals.{none_some, decimal-number_in, bytes_same, known_text-known_in}
+use Rattle.span_texts.proofs.Numerals.{decimal-number_in, known_text-known_in}
 use Rattle.span_texts.proofs.Readback.{written, IsNarrow}
 use Rattle.span_texts.proofs.Texts.{ages_fields, row_fields, row_text, row_line-text, AreSmall}
 
@@ -44,12 +45,12 @@ record Parts (a : Option ℕ) (x y : Option (Option ℕ)) (f t : Option Bool) (g
   ages_are : g ≡ Some r.ages
 
 row_parts : (a : Option ℕ) (x y : Option (Option ℕ)) (f t : Option Bool) (g : Option Ages) (r : Row) → row_by a x y f t g ≡ Some r → Parts a x y f t g r
-row_parts None x y f t g r e = absurd (none_some e)
-row_parts (Some a) None y f t g r e = absurd (none_some e)
-row_parts (Some a) (Some x) None f t g r e = absurd (none_some e)
-row_parts (Some a) (Some x) (Some y) None t g r e = absurd (none_some e)
-row_parts (Some a) (Some x) (Some y) (Some f) None g r e = absurd (none_some e)
-row_parts (Some a) (Some x) (Some y) (Some f) (Some t) None r e = absurd (none_some e)
+row_parts None x y f t g r e = absurd (none-some _ e)
+row_parts (Some a) None y f t g r e = absurd (none-some _ e)
+row_parts (Some a) (Some x) None f t g r e = absurd (none-some _ e)
+row_parts (Some a) (Some x) (Some y) None t g r e = absurd (none-some _ e)
+row_parts (Some a) (Some x) (Some y) (Some f) None g r e = absurd (none-some _ e)
+row_parts (Some a) (Some x) (Some y) (Some f) (Some t) None r e = absurd (none-some _ e)
 row_parts (Some a) (Some x) (Some y) (Some f) (Some t) (Some g) r e =
     let s : record { context = record { address = a; x = x; y = y; from = f; to = t }; ages = g } ≡ r = same_Some _ r e in
     record {
@@ -71,12 +72,12 @@ record Sayings (a : Option ℕ) (x y : Option (Option ℕ)) (f t : Option ℕ) (
   ages_are : g ≡ Some s.ages
 
 sayings : (a : Option ℕ) (x y : Option (Option ℕ)) (f t : Option ℕ) (g : Option Ages) (s : Said) → said_by a x y f t g ≡ Some s → Sayings a x y f t g s
-sayings None x y f t g s e = absurd (none_some e)
-sayings (Some a) None y f t g s e = absurd (none_some e)
-sayings (Some a) (Some x) None f t g s e = absurd (none_some e)
-sayings (Some a) (Some x) (Some y) None t g s e = absurd (none_some e)
-sayings (Some a) (Some x) (Some y) (Some f) None g s e = absurd (none_some e)
-sayings (Some a) (Some x) (Some y) (Some f) (Some t) None s e = absurd (none_some e)
+sayings None x y f t g s e = absurd (none-some _ e)
+sayings (Some a) None y f t g s e = absurd (none-some _ e)
+sayings (Some a) (Some x) None f t g s e = absurd (none-some _ e)
+sayings (Some a) (Some x) (Some y) None t g s e = absurd (none-some _ e)
+sayings (Some a) (Some x) (Some y) (Some f) None g s e = absurd (none-some _ e)
+sayings (Some a) (Some x) (Some y) (Some f) (Some t) None s e = absurd (none-some _ e)
 sayings (Some a) (Some x) (Some y) (Some f) (Some t) (Some g) s e =
     let q : record { address = a; x = x; y = y; from = f; to = t; ages = g } ≡ s = same_Some _ s e in
     record {
@@ -88,20 +89,16 @@ sayings (Some a) (Some x) (Some y) (Some f) (Some t) (Some g) s e =
       ages_are = ap (λ (p : Said). Some p.ages) q;
     }
 
-placed_by : (b : Bool) (n a : ℕ) → cond b (Some n) None ≡ Some a → (n ≡ a) × (b ≡ true)
-placed_by true n a e = (same_Some n a e, refl)
-placed_by false n a e = absurd (none_some e)
-
 placed_is : (n a : ℕ) → placed n ≡ Some a → (n ≡ a) × (nat_lt a 32 ≡ true)
 placed_is n a e =
-    let p = placed_by (nat_lt n 32) n a e in
-    (p.0, rw p.0 at p.1)
+    let p = cond_some (nat_lt n 32) n a e in
+    (p.1, rw p.1 at p.0)
 
 known_is : (most : ℕ) (o k : Option ℕ) → known_placed most o ≡ Some k → (o ≡ k) × (is_small most k ≡ true)
 known_is most None k e = let s : None ≡ k = same_Some None k e in (s, ap (is_small most) (sym s))
 known_is most (Some n) k e = on (nat_le n most) refl e where
   on : (b : Bool) → nat_le n most ≡ b → cond b (Some (Some n)) None ≡ Some k → (Some n ≡ k) × (is_small most k ≡ true)
-  on false q f = absurd (none_some f)
+  on false q f = absurd (none-some _ f)
   on true q f = let s : Some n ≡ k = same_Some (Some n) k f in (s, ap (is_small most) (sym s) ∙ q)
 
 level_by : (b c : Bool) (n : ℕ) (l : Bool) → (n == 0) ≡ b → (n == 1) ≡ c → cond b (Some false) (cond c (Some true) None) ≡ Some l → n ≡ level_number l
@@ -111,19 +108,16 @@ level_by true c n l p q e =
 level_by false true n l p q e =
     let s : true ≡ l = same_Some true l e in
     let z : n ≡ 1 = grind (arith, nat_tests) in z ∙ ap level_number s
-level_by false false n l p q e = absurd (none_some e)
+level_by false false n l p q e = absurd (none-some _ e)
 
 level_is : (n : ℕ) (l : Bool) → level_of n ≡ Some l → n ≡ level_number l
 level_is n l e = level_by (n == 0) (n == 1) n l refl refl e
 
-at_most : (n m : ℕ) → nat_le n m ≡ true → n ≤ m
-at_most n m e = grind (arith, nat_tests)
-
 ages_by : (b : Bool) (lo hi : ℕ) (g : Ages) → (nat_le lo hi && nat_le hi most_age) ≡ b → cond b (Some (Between lo hi)) None ≡ Some g → (Between lo hi ≡ g) × IsAgeRange (Between lo hi)
 ages_by true lo hi g p e =
     let q = and_parts (nat_le lo hi) (nat_le hi most_age) p in
-    (same_Some (Between lo hi) g e, (at_most lo hi q.0, at_most hi most_age q.1))
-ages_by false lo hi g p e = absurd (none_some e)
+    (same_Some (Between lo hi) g e, (leb-true lo hi q.0, leb-true hi most_age q.1))
+ages_by false lo hi g p e = absurd (none-some _ e)
 
 ages_are : (a g : Ages) → ages_placed a ≡ Some g → (a ≡ g) × IsAgeRange a
 ages_are Empty g e = (same_Some Empty g e, tt)
@@ -137,12 +131,12 @@ level_field false field e = sym (decimal_digit 0 (omega arith)) ∙ decimal-numb
 empty_by : (b : Bool) (field : List ℕ) (g : Ages) → bytes_eq field (codes "-") ≡ b → cond b (Some Empty) None ≡ Some g → ages_fields g ≡ field ∷ []
 empty_by true field g p e =
     let s : Empty ≡ g = same_Some Empty g e in
-    ap ages_fields (sym s) ∙ ap (λ (x : List ℕ). x ∷ []) (sym (bytes_same field (codes "-") p))
-empty_by false field g p e = absurd (none_some e)
+    ap ages_fields (sym s) ∙ ap (λ (x : List ℕ). x ∷ []) (sym ((bytes_eq-Decides field (codes "-")).0 p))
+empty_by false field g p e = absurd (none-some _ e)
 
 between_by : (o p : Option ℕ) (lo hi : List ℕ) (g : Ages) → number_in lo ≡ o → number_in hi ≡ p → AreSmall g → between o p ≡ Some g → ages_fields g ≡ lo ∷ hi ∷ []
-between_by None p lo hi g h k l e = absurd (none_some e)
-between_by (Some n) None lo hi g h k l e = absurd (none_some e)
+between_by None p lo hi g h k l e = absurd (none-some _ e)
+between_by (Some n) None lo hi g h k l e = absurd (none-some _ e)
 between_by (Some n) (Some m) lo hi g h k l e =
     let s : Between n m ≡ g = same_Some (Between n m) g e in
     let small : AreSmall (Between n m) = subst (λ (a : Ages). AreSmall a) (sym s) l in
@@ -150,10 +144,10 @@ between_by (Some n) (Some m) lo hi g h k l e =
 
 -- the fields of ages
 ages_there : (fields : List (List ℕ)) (g : Ages) → AreSmall g → ages_in fields ≡ Some g → ages_fields g ≡ fields
-ages_there [] g h e = absurd (none_some e)
+ages_there [] g h e = absurd (none-some _ e)
 ages_there (field ∷ []) g h e = empty_by (bytes_eq field (codes "-")) field g refl e
 ages_there (lo ∷ hi ∷ []) g h e = between_by (number_in lo) (number_in hi) lo hi g refl refl h e
-ages_there (lo ∷ hi ∷ more ∷ others) g h e = absurd (none_some e)
+ages_there (lo ∷ hi ∷ more ∷ others) g h e = absurd (none-some _ e)
 
 and_three : (a b c : Bool) → a ≡ true → b ≡ true → c ≡ true → (a && (b && c)) ≡ true
 and_three a b c p q s = rw (p, q, s) refl
@@ -195,11 +189,11 @@ fields_there d a x y f t g s r e h =
     }
 
 row_there : (d : Follow) (fields : List (List ℕ)) (s : Said) (r : Row) → said_in fields ≡ Some s → row_of d s ≡ Some r → IsRead d r fields
-row_there d [] s r e h = absurd (none_some e)
-row_there d (a ∷ []) s r e h = absurd (none_some e)
-row_there d (a ∷ x ∷ []) s r e h = absurd (none_some e)
-row_there d (a ∷ x ∷ y ∷ []) s r e h = absurd (none_some e)
-row_there d (a ∷ x ∷ y ∷ f ∷ []) s r e h = absurd (none_some e)
+row_there d [] s r e h = absurd (none-some _ e)
+row_there d (a ∷ []) s r e h = absurd (none-some _ e)
+row_there d (a ∷ x ∷ []) s r e h = absurd (none-some _ e)
+row_there d (a ∷ x ∷ y ∷ []) s r e h = absurd (none-some _ e)
+row_there d (a ∷ x ∷ y ∷ f ∷ []) s r e h = absurd (none-some _ e)
 row_there d (a ∷ x ∷ y ∷ f ∷ t ∷ g) s r e h = fields_there d a x y f t g s r e h
 
 -- what is known of a line that was read
@@ -260,7 +254,7 @@ ended_is number (b ∷ bs) others rows e = absurd (err_ok e)
 at_end : (d : Follow) (number least : ℕ) (line next : List ℕ) (others : List (List ℕ)) (rows : List Row) → bytes_eq line end_line ≡ true → ended number (next ∷ others) ≡ Ok rows → AreLines d least (line ∷ next ∷ others) rows
 at_end d number least line next others rows p e =
     let t = ended_is number next others rows e in
-    let l : line ≡ end_line = bytes_same line end_line p in
+    let l : line ≡ end_line = (bytes_eq-Decides line end_line).0 p in
     rw (t.0, ← t.1, l) (record { text = λ narrow. refl; table = tt; told = tt })
 
 with_row_is : (r : Row) (d : Result (List Row) TableRefusal) (rows : List Row) → with_row r d ≡ Ok rows → (rs : List Row) × ((d ≡ Ok rs) × ((r ∷ rs) ≡ rows))
@@ -313,7 +307,7 @@ after_is d line next others rows e = elim (cases_Bool (bytes_eq line head_line))
   | inl yes' ↦ (
       let more = lines_there d 2 0 (next ∷ others) rows (rw yes' at e) in
       record {
-        text = λ narrow. ap (λ (x : List ℕ). x ++ 10 ∷ join_with_byte 10 (next ∷ others)) (bytes_same line head_line yes') ∙ ap (λ (x : List ℕ). codes "pio table 1\n" ++ x) (more.text narrow);
+        text = λ narrow. ap (λ (x : List ℕ). x ++ 10 ∷ join_with_byte 10 (next ∷ others)) ((bytes_eq-Decides line head_line).0 yes') ∙ ap (λ (x : List ℕ). codes "pio table 1\n" ++ x) (more.text narrow);
         table = more.table;
         told = more.told;
       })

@@ -2,9 +2,8 @@
 use Rattle.std.proofs.Common.{◌≡◌, ℕ, false, not, eqb, List, [], ◌∷◌, ◌++◌, ◌+◌, ◌<◌, ◌≤◌, length, get_or, take, drop, refl, sym, ap, subst, ◌∙◌}
 use Rattle.std.specs.Prelude.{IsTrue}
 use Rattle.std.specs.List.{list_all, slice_split, AllByRecursion}
-use Rattle.std.proofs.lemmas.Bool.{and_parts, and_from, not-true}
+use Rattle.std.proofs.lemmas.Bool.{and_parts, not-true}
 use Rattle.std.proofs.lemmas.List.{at_drop_more, take-append-drop, take_all}
-use Rattle.std.proofs.lemmas.List.Folds.{list_all_more}
 use Rattle.std.proofs.lemmas.List.Elements.{All-from_recursion}
 use Rattle.std.proofs.lemmas.List.Splits.{slice_split_none, slice_split_at}
 
@@ -20,10 +19,6 @@ no_blank [] h = tt
 no_blank (b ∷ bs) h =
     let p = and_parts (not (eqb b 32)) (list_all (λ c. not (eqb c 32)) bs) h in
     (not-true (eqb b 32) p.0, no_blank bs p.1)
-
-pub field_more : (text : List ℕ) (i : ℕ) → i < length text → eqb (get_or text i 0) 32 ≡ false → IsField (take i text) → IsField (take (i + 1) text)
-field_more text i lt e h =
-    list_all_more (λ b. not (eqb b 32)) text i 0 lt ∙ and_from (list_all (λ b. not (eqb b 32)) (take i text)) (not (eqb (get_or text i 0) 32)) h (ap not e)
 
 pub field_ends : (text : List ℕ) (i : ℕ) → i < length text → get_or text i 0 ≡ 32 → IsField (take i text) → split text ≡ take i text ∷ split (drop (i + 1) text)
 field_ends text i lt e h =

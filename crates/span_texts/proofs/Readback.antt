@@ -1,12 +1,14 @@
 -- The text of a table is read back.
-use Rattle.std.proofs.Common.{◌≡◌, ℕ, ◌+◌, ◌^◌, ◌<◌, ◌≤◌, nat_lt, nat_le, nat_eq, eqb, ◌&&◌, Bool, true, false, List, [], ◌∷◌, ◌++◌, length, Option, Some, None, Bor, Ok, refl, sym, ap, ◌∙◌, append_assoc, codes, decimal, arith}
+use Rattle.std.proofs.Common.{◌≡◌, ℕ, ◌+◌, ◌^◌, ◌<◌, ◌≤◌, nat_lt, nat_le, nat_eq, eqb, ◌&&◌, Bool, true, false, true≢false, List, [], ◌∷◌, ◌++◌, length, Option, Some, None, Bor, Ok, refl, sym, ap, ◌∙◌, append_assoc, codes, decimal, arith}
 use Rattle.std.specs.Prelude.{option_copied}
 use Rattle.std.specs.Str.{bytes_eq}
 use Rattle.std.specs.Str.Parse.{AllDigits}
+use Rattle.std.proofs.lemmas.Bool.{le-leb}
 use Rattle.std.proofs.lemmas.Bool.Decides.{nat_tests}
 use Rattle.std.proofs.lemmas.Fmt.{decimal_is_IsNumeral}
 use Rattle.std.proofs.lemmas.List.Elements.{All-from_recursion}
 use Rattle.std.proofs.lemmas.List.Splits.{slice_split_at}
+use Rattle.std.proofs.lemmas.Option.{none-some}
 use Rattle.std.proofs.lemmas.Str.Parse.{digit_from_value}
 use Rattle.byte_lines.specs.Lines.{lines_of, lines_left}
 use Rattle.pin_matrix.specs.declared.assume.Follow.{Follow}
@@ -77,21 +79,14 @@ level_back : (b : Bool) → level_of (level_number b) ≡ Some b
 level_back true = refl
 level_back false = refl
 
-within : (n m : ℕ) → n ≤ m → nat_le n m ≡ true
-within n m l = grind (arith, nat_tests)
-
 ages_back : (a : Ages) → IsAgeRange a → ages_placed a ≡ Some a
 ages_back Empty h = refl
-ages_back (Between lo hi) h = rw (within lo hi h.0, within hi most_age h.1) refl
+ages_back (Between lo hi) h = rw (le-leb lo hi h.0, le-leb hi most_age h.1) refl
 
 three : (a b c : Bool) → (a && (b && c)) ≡ true → (a ≡ true) × ((b ≡ true) × (c ≡ true))
 three true true c h = (refl, (refl, h))
-three true false c h = absurd (bad h) where
-  bad : false ≡ true → ⊥
-  bad e = cc
-three false b c h = absurd (bad h) where
-  bad : false ≡ true → ⊥
-  bad e = cc
+three true false c h = absurd (true≢false (sym h))
+three false b c h = absurd (true≢false (sym h))
 
 row_back : (d : Follow) (r : Row) → is_placed d r.context.address r.context.x r.context.y ≡ true → IsAgeRange r.ages → row_of d (said_row r) ≡ Some r
 row_back d r p h =
@@ -110,9 +105,7 @@ not_above : (most n : ℕ) → most < 2 ^ 16 → nat_le n most ≡ true → n < 
 not_above most n k h = let l : n ≤ most = grind (arith, nat_tests) in omega (arith, k, l)
 
 small_known : (most : ℕ) (o : Option ℕ) → most < 2 ^ 16 → is_small most o ≡ true → IsSmall o
-small_known most None k h n e = absurd (bad e) where
-  bad : {A : Type 0} {x : A} → None ≡ Some x → ⊥
-  bad e = cc
+small_known most None k h n e = absurd (none-some _ e)
 small_known most (Some m) k h n e = let s : m ≡ n = cc in not_above most n k (rw s at h)
 
 small_ages : (a : Ages) → IsAgeRange a → AreSmall a
