@@ -14,7 +14,7 @@ use span_bounds::{Ages, Context, Row, number_of};
 
 /// The row of a line, or what is wrong with it, where X and Y are followed so far, after rows whose contexts' numbers are all below
 /// this one.
-#[tactic(auto, unfolding(crate::specs::Lines::row_at))]
+#[tactic(auto, unfolding(crate::specs::TableLines::row_at))]
 pub(crate) fn read_row(follow: Follow, line: &[u8], least: usize) -> Result<Row, TableKind>
     ensures value { result ≡ spec.row_at follow least line.now }
     ensures placed { IfOk result (λ row. IsTrue (is_placed follow row.context.address row.context.x row.context.y)) }
