@@ -14,9 +14,9 @@ use crate::handing::hand_on;
 use fault_lines::Fault;
 use pin_matrix::{Setup, Span};
 use pio_edge::{Shelf, Sink, SinkFailed};
+use span_texts::{Finding, Refusal, put_verdict};
 use stages::{Verdicts, judge_spans, prepare_setup, refuse};
 use std::alloc::Global;
-use span_texts::{Finding, Refusal, put_verdict};
 
 /// Writes the line of the verdict on each span of a setup, and then ends with the fault of the first one that isn't
 /// provable, if there is one. All memory is taken before the first piece is put.

@@ -23,11 +23,10 @@ use pio_edge::{Shelf, Sink};
 use pio_encode::Name;
 use span_bounds::Table;
 use span_check::a_provable_span_holds_in_every_run;
+use span_texts::{Refusal, put_rechecked};
 use span_verdict::{Flaw, flaw, shared_by};
 use stages::{fetch_table, prepare_setup, span_named};
 use std::alloc::Global;
-use span_texts::put_rechecked;
-use span_texts::Refusal;
 
 /// Writes that the table of a file proves the first span of this name, where it does; else nothing. All memory is taken
 /// before the first piece is put.

@@ -15,11 +15,10 @@ use pin_matrix::{Setup, Span};
 use pio_edge::{Shelf, Sink};
 use span_bounds::Table;
 use span_check::check;
+use span_texts::{Refusal, put_table, text_len};
 use span_verdict::Verdict;
 use stages::{limit_of, prepare_setup, span_named};
 use std::alloc::{AllocError, Global};
-use span_texts::{put_table, text_len};
-use span_texts::Refusal;
 
 /// Writes the table of the first span of this name, the least closed one, where the span is provable and the text is no
 /// longer than a table file may be; else nothing. All memory is taken before the first piece is put.
