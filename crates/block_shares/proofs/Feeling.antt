@@ -1,6 +1,6 @@
 -- That a machine is alone, from what it can feel of each other one.
 use Rattle.std.proofs.Common.{◌≡◌, ◌≢◌, ℕ, zero, suc, ◌==◌, Bool, true, false, not, ◌&&◌, ◌||◌, ◌↔◌, refl, ap, inl, inr, arith}
-use Rattle.std.proofs.lemmas.Bool.{cases_eq}
+use Rattle.std.proofs.lemmas.Bool.{and_parts, and_right, cases_eq, eqb-true, not-true, or_from}
 use Rattle.std.proofs.lemmas.Bool.Decides.{nat_tests}
 use Rattle.pin_matrix.specs.declared.setup.Setup.{Setup}
 use Rattle.block_shares.specs.Shares.{shares_of, IsAlone}
@@ -10,30 +10,11 @@ none_of : (a b : Bool) → not (a || b) ≡ true → (a ≡ false) × (not b ≡
 none_of true b h = cc
 none_of false b h = (refl, h)
 
-is_not : (b : Bool) → not b ≡ true → b ≡ false
-is_not true h = cc
-is_not false h = refl
-
-both_none : (a b : Bool) → a ≡ false → b ≡ false → (a || b) ≡ false
-both_none true b h k = cc
-both_none false b h k = k
-
-and_false : (b : Bool) → (b && false) ≡ false
-and_false true = refl
-and_false false = refl
-
-is_zero : (n : ℕ) → (n == 0) ≡ true → n ≡ 0
-is_zero n h = grind (arith, nat_tests)
-
-both : (a b : Bool) → (a && b) ≡ true → (a ≡ true) × (b ≡ true)
-both true b h = (refl, h)
-both false b h = cc
-
 nothing : (x : ℕ × ℕ) → is_nothing x ≡ true → x ≡ (0, 0)
 nothing (a, b) h =
-    let parts = both (a == 0) (b == 0) h in
-    let e : a ≡ 0 = is_zero a parts.0 in
-    let f : b ≡ 0 = is_zero b parts.1 in cc
+    let parts = and_parts (a == 0) (b == 0) h in
+    let e : a ≡ 0 = eqb-true a 0 parts.0 in
+    let f : b ≡ 0 = eqb-true b 0 parts.1 in cc
 
 -- what is felt of another is nothing
 unfelt : (k m : ℕ) (x : ℕ × ℕ) → k ≢ m → (not (k == m) && not (is_nothing x)) ≡ false → x ≡ (0, 0)
@@ -46,7 +27,7 @@ silent : (k m : ℕ) (x : ℕ × ℕ) → (k ≢ m → x ≡ (0, 0)) → (not (k
 silent k m x h =
     elim (cases_eq k m) [
       | inl same ↦ let e : (k == m) ≡ true = grind (arith, nat_tests) in rw e refl
-      | inr apart ↦ rw (h apart) (and_false (not (k == m)))
+      | inr apart ↦ rw (h apart) (and_right (not (k == m)) false refl)
     ]
 
 of_each : (s : Setup) (m : ℕ) → feels s m 0 ≡ false → feels s m 1 ≡ false → feels s m 2 ≡ false → feels s m 3 ≡ false → IsAlone s m
@@ -62,10 +43,10 @@ alone_says s m = (
       let first = none_of (feels s m 0) _ h in
       let second = none_of (feels s m 1) _ first.1 in
       let third = none_of (feels s m 2) _ second.1 in
-      of_each s m first.0 second.0 third.0 (is_not (feels s m 3) third.1)),
+      of_each s m first.0 second.0 third.0 (not-true (feels s m 3) third.1)),
   (λ h.
-      let off : feels_any s m ≡ false = both_none (feels s m 0) _ (silent 0 m (shares_of s m 0) (h 0 (omega arith)))
-      (both_none (feels s m 1) _ (silent 1 m (shares_of s m 1) (h 1 (omega arith)))
-      (both_none (feels s m 2) _ (silent 2 m (shares_of s m 2) (h 2 (omega arith))) (silent 3 m (shares_of s m 3) (h 3 (omega arith))))) in
+      let off : feels_any s m ≡ false = or_from (feels s m 0) _ (silent 0 m (shares_of s m 0) (h 0 (omega arith)))
+      (or_from (feels s m 1) _ (silent 1 m (shares_of s m 1) (h 1 (omega arith)))
+      (or_from (feels s m 2) _ (silent 2 m (shares_of s m 2) (h 2 (omega arith))) (silent 3 m (shares_of s m 3) (h 3 (omega arith))))) in
       ap not off),
 )

@@ -4,8 +4,8 @@ use Rattle.pin_matrix.specs.declared.setup.Setup.{Setup}
 use Rattle.pin_matrix.specs.declared.span.Span.{Span}
 use Rattle.span_verdict.specs.Sharing.{IsUnshared, IsLeastSharer}
 use Rattle.span_verdict.specs.declared.table_flaw.Flaw.{Flaw}
-use Rattle.verdict_lines.specs.declared.refusal.Refusal.{Refusal}
-use Rattle.verdict_lines.specs.declared.refusal.Refusal.TheVariants.{Unproved, Shared}
+use Rattle.span_texts.specs.declared.refusal.Refusal.{Refusal}
+use Rattle.span_texts.specs.declared.refusal.Refusal.TheVariants.{Unproved, Shared}
 use Rattle.pio_edge.specs.Count.{Faults, failed_at, one_more}
 use Rattle.pio_edge.specs.Edge.{Files, Rose, with_bytes}
 use Rattle.fault_lines.specs.declared.fault.File.{File}

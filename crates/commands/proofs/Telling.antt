@@ -10,9 +10,9 @@ use Rattle.span_verdict.specs.declared.table_flaw.Flaw.{Flaw}
 use Rattle.span_verdict.specs.declared.verdict.Verdict.{Verdict}
 use Rattle.span_verdict.specs.declared.verdict.Verdict.TheVariants as verdict
 use Rattle.span_verdict.specs.Verdicts.{IsVerdict}
-use Rattle.verdict_lines.specs.declared.refusal.Refusal.{Refusal}
-use Rattle.table_files.specs.FlawLines.{rechecked_line}
-use Rattle.table_files.specs.Rows.{table_text}
+use Rattle.span_texts.specs.declared.refusal.Refusal.{Refusal}
+use Rattle.span_texts.specs.FlawLines.{rechecked_line}
+use Rattle.span_texts.specs.Rows.{table_text}
 use Rattle.fault_lines.specs.declared.fault.File.TheVariants as file
 use Rattle.fault_lines.specs.declared.fault.Fault.{Fault}
 use Rattle.fault_lines.specs.declared.fault.Fault.TheVariants as fault

@@ -2,9 +2,9 @@
 use Rattle.std.proofs.Common.{◌≡◌, ◌∙◌, ℕ, zero, suc, ◌+◌, ◌++◌, ◌<◌, ◌≤◌, arith, Bool, Result, List, [], ◌∷◌, length, drop, get_or, refl, sym, ap}
 use Rattle.pin_matrix.specs.declared.setup.Setup.{Setup}
 use Rattle.pin_matrix.specs.declared.span.Span.{Span}
-use Rattle.verdict_lines.specs.declared.refusal.Finding.{Finding}
-use Rattle.verdict_lines.specs.declared.refusal.Refusal.{Refusal}
-use Rattle.verdict_lines.specs.Lines.{verdict_line}
+use Rattle.span_texts.specs.declared.refusal.Finding.{Finding}
+use Rattle.span_texts.specs.declared.refusal.Refusal.{Refusal}
+use Rattle.span_texts.specs.VerdictLines.{verdict_line}
 use Rattle.stages.specs.Spans.{AreVerdicts, verdict_text}
 
 -- there is a verdict on each

@@ -5,8 +5,8 @@ use Rattle.pin_matrix.specs.declared.span.Span.{Span}
 use Rattle.fault_lines.specs.Output.{Output}
 use Rattle.fault_lines.specs.declared.fault.Fault.{Fault}
 use Rattle.fault_lines.specs.declared.fault.Fault.TheVariants as fault
-use Rattle.verdict_lines.specs.declared.refusal.Finding.{Finding}
-use Rattle.verdict_lines.specs.declared.refusal.Refusal.{Refusal}
+use Rattle.span_texts.specs.declared.refusal.Finding.{Finding}
+use Rattle.span_texts.specs.declared.refusal.Refusal.{Refusal}
 use Rattle.stages.specs.Spans.{AreVerdicts, verdict_text}
 use Rattle.commands.specs.Written.{Writes}
 use Rattle.commands.specs.Verdicts.{TellsVerdicts}

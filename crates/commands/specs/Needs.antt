@@ -14,8 +14,8 @@ use Rattle.span_verdict.specs.Flaws.{first_flaw}
 use Rattle.span_verdict.specs.Sharing.{IsUnshared, IsLeastSharer}
 use Rattle.span_verdict.specs.declared.table_flaw.Flaw.{Flaw}
 use Rattle.span_check.specs.Proved.{HoldsInEveryRun}
-use Rattle.verdict_lines.specs.declared.refusal.Refusal.{Refusal}
-use Rattle.verdict_lines.specs.declared.refusal.Refusal.TheVariants.{Unproved, Shared}
+use Rattle.span_texts.specs.declared.refusal.Refusal.{Refusal}
+use Rattle.span_texts.specs.declared.refusal.Refusal.TheVariants.{Unproved, Shared}
 use Rattle.stages.specs.Named.{named_from}
 use Rattle.stages.specs.Pairs.{AllHoldInPairs}
 use Rattle.stages.specs.Spans.{IsProvableAlone, AreProvable, AllHold, IsRefused, IsFirstRefused}

@@ -29,10 +29,10 @@ use Rattle.drawn_load.specs.Summaries.{summary_of, summary_text}
 use Rattle.span_bounds.specs.declared.row.Row.{Row}
 use Rattle.span_bounds.specs.Answers.{IsGoodLeast}
 use Rattle.span_check.specs.Proved.{HoldsInEveryRun}
-use Rattle.verdict_lines.specs.declared.refusal.Finding.{Finding}
-use Rattle.verdict_lines.specs.declared.refusal.Refusal.{Refusal}
-use Rattle.table_files.specs.Rows.{table_text}
-use Rattle.table_files.specs.FlawLines.{rechecked_line}
+use Rattle.span_texts.specs.declared.refusal.Finding.{Finding}
+use Rattle.span_texts.specs.declared.refusal.Refusal.{Refusal}
+use Rattle.span_texts.specs.Rows.{table_text}
+use Rattle.span_texts.specs.FlawLines.{rechecked_line}
 use Rattle.fault_lines.specs.declared.fault.File.TheVariants.{Send, Table}
 use Rattle.command_line.specs.Words.{Asked}
 use Rattle.stages.specs.declared.pair.TwoBlocks.{TwoBlocks}

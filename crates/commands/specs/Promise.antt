@@ -8,7 +8,7 @@ use Rattle.fault_lines.specs.declared.fault.File.TheVariants as file
 use Rattle.fault_lines.specs.declared.fault.Fault.{Fault}
 use Rattle.fault_lines.specs.declared.fault.Fault.TheVariants as fault
 use Rattle.span_verdict.specs.declared.table_flaw.Flaw.{Flaw}
-use Rattle.verdict_lines.specs.declared.refusal.Refusal.{Refusal}
+use Rattle.span_texts.specs.declared.refusal.Refusal.{Refusal}
 use Rattle.command_line.specs.Words.{Asked, run, check, table, recheck, pair}
 use Rattle.stages.specs.Judged.{wrong}
 use Rattle.stages.specs.Stages.{HasSuch}

@@ -11,12 +11,12 @@ use Rattle.span_bounds.specs.Answers.{IsGoodLeast}
 use Rattle.span_bounds.specs.Tables.{FollowedRows}
 use Rattle.span_verdict.specs.declared.verdict.Verdict.{Verdict}
 use Rattle.span_verdict.specs.declared.verdict.Verdict.TheVariants as verdict
-use Rattle.verdict_lines.specs.declared.refusal.Refusal.{Refusal}
-use Rattle.verdict_lines.specs.declared.refusal.Refusal.TheVariants as refusal
+use Rattle.span_texts.specs.declared.refusal.Refusal.{Refusal}
+use Rattle.span_texts.specs.declared.refusal.Refusal.TheVariants as refusal
 use Rattle.fault_lines.specs.declared.fault.Fault.{Fault}
 use Rattle.fault_lines.specs.declared.fault.Fault.TheVariants as fault
 use Rattle.fault_lines.specs.Output.{Output}
-use Rattle.table_files.specs.FlawLines.{rechecked_line}
+use Rattle.span_texts.specs.FlawLines.{rechecked_line}
 use Rattle.fault_lines.specs.declared.fault.File.TheVariants as file
 use Rattle.stages.specs.Judged.{limit}
 use Rattle.stages.specs.Spans.{IsProvableAlone, IsRefused}

@@ -33,8 +33,8 @@ use Rattle.pin_matrix.specs.declared.setup.Setup.{Setup}
 use Rattle.pin_matrix.specs.declared.span.Span.{Span}
 use Rattle.span_bounds.specs.declared.row.Row.{Row}
 use Rattle.span_bounds.specs.Answers.{IsGoodLeast}
-use Rattle.table_files.specs.Rows.{table_text}
-use Rattle.table_files.specs.FlawLines.{rechecked_line}
+use Rattle.span_texts.specs.Rows.{table_text}
+use Rattle.span_texts.specs.FlawLines.{rechecked_line}
 use Rattle.command_line.specs.Words.{Asked, asm, run, check, table, recheck, shares, gen, dis, measure, receive, uart, pair, inspect}
 use Rattle.program_listing.specs.Listing.{listing_text}
 use Rattle.word_file.specs.Listing.{word_lines, rule_for}

@@ -2,7 +2,7 @@
 ghost use Rattle.std.specs.Prelude.{◌≡◌, [], length, option_map};
 ghost use Rattle.command_line.specs.Words.{check as check_asked};
 ghost use Rattle.pio_edge.specs.Edge.{PutCounts, Takes};
-ghost use Rattle.verdict_lines.specs.Lines.{verdict_line};
+ghost use Rattle.span_texts.specs.VerdictLines.{verdict_line};
 ghost use Rattle.stages.specs.Configured.{AreConfigured};
 ghost use Rattle.stages.specs.Spans.{AreJudged, verdict_text};
 ghost use Rattle.commands.specs.Outside.{call_by, output_by};
@@ -14,9 +14,9 @@ use crate::handing::hand_on;
 use fault_lines::Fault;
 use pin_matrix::{Setup, Span};
 use pio_edge::{Shelf, Sink, SinkFailed};
+use span_texts::{Finding, Refusal, put_verdict};
 use stages::{Verdicts, judge_spans, prepare_setup, refuse};
 use std::alloc::Global;
-use verdict_lines::{Finding, Refusal, put_verdict};
 
 /// Writes the line of the verdict on each span of a setup, and then ends with the fault of the first one that isn't
 /// provable, if there is one. All memory is taken before the first piece is put.

@@ -8,8 +8,8 @@ ghost use Rattle.block_core.specs.Block.{first_run};
 ghost use Rattle.span_bounds.specs.declared.row.Row.{Row};
 ghost use Rattle.span_bounds.specs.Answers.{IsGoodLeast};
 ghost use Rattle.span_bounds.specs.Tables.{IsClosed, IsGood};
-ghost use Rattle.table_files.specs.Reading.{table_of};
-ghost use Rattle.table_files.specs.Rows.{table_text};
+ghost use Rattle.span_texts.specs.Reading.{table_of};
+ghost use Rattle.span_texts.specs.Rows.{table_text};
 ghost use Rattle.serial_receiver.specs.FrameText.{frames_text};
 ghost use Rattle.pio_uart.specs.Feeding.{fed};
 ghost use Rattle.pio_uart.specs.Transmitter.{IsTransmitter};
@@ -20,7 +20,7 @@ ghost use Rattle.command_line.specs.Words.{Asked, clocks_asked};
 
 use idle_engine::few_clocks_are_worked_out;
 use pio_uart::a_transmitter_sends_in_time;
-use table_files::{a_least_table_is_told, a_table_is_read_back};
+use span_texts::{a_least_table_is_told, a_table_is_read_back};
 
 /// What `table` writes of a span is a table file whose table is closed and good, as `recheck` asks of it.
 pub fn a_written_table_is_a_proof()

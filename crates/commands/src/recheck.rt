@@ -2,7 +2,7 @@
 ghost use Rattle.std.specs.Prelude.{◌≡◌, ℕ, IfSome, IsSome, List, MatchOption, None, Option, Some, option_map, slice_index_or};
 ghost use Rattle.command_line.specs.Words.{recheck as recheck_asked};
 ghost use Rattle.pin_matrix.specs.Followed.{followed};
-ghost use Rattle.table_files.specs.FlawLines.{rechecked_line};
+ghost use Rattle.span_texts.specs.FlawLines.{rechecked_line};
 ghost use Rattle.span_check.specs.Proved.{HoldsInEveryRun};
 ghost use Rattle.span_verdict.specs.Sharing.{IsUnshared};
 ghost use Rattle.fault_lines.specs.declared.fault.File.TheVariants as file;
@@ -23,11 +23,10 @@ use pio_edge::{Shelf, Sink};
 use pio_encode::Name;
 use span_bounds::Table;
 use span_check::a_provable_span_holds_in_every_run;
+use span_texts::{Refusal, put_rechecked};
 use span_verdict::{Flaw, flaw, shared_by};
 use stages::{fetch_table, prepare_setup, span_named};
 use std::alloc::Global;
-use table_files::put_rechecked;
-use verdict_lines::Refusal;
 
 /// Writes that the table of a file proves the first span of this name, where it does; else nothing. All memory is taken
 /// before the first piece is put.

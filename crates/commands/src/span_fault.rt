@@ -5,9 +5,9 @@ ghost use Rattle.commands.specs.Tables.{IsFlawOf, IsRefusalOf};
 use fault_lines::Fault;
 use pin_matrix::Span;
 use pio_encode::Name;
+use span_texts::Refusal;
 use span_verdict::Flaw;
 use std::alloc::{AllocError, Global};
-use verdict_lines::Refusal;
 
 /// The fault of the span at this place, which isn't provable, or out of memory.
 pub fn unproved(alloc: Global, place: usize, span: &Span, refusal: Refusal) -> Fault

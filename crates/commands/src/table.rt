@@ -1,7 +1,7 @@
 //! The command `table`: the table that proves a span, as a text that anyone can recheck.
 ghost use Rattle.std.specs.Prelude.{◌≡◌, IfOk, IsSome, None, option_map, slice_index_or};
 ghost use Rattle.command_line.specs.Words.{table as table_asked};
-ghost use Rattle.table_files.specs.Rows.{table_text};
+ghost use Rattle.span_texts.specs.Rows.{table_text};
 ghost use Rattle.commands.specs.Outside.{call_by, output_by};
 ghost use Rattle.commands.specs.Promise.{CommandAsks, CommandEnds};
 ghost use Rattle.commands.specs.Written.{SinkWrites};
@@ -15,11 +15,10 @@ use pin_matrix::{Setup, Span};
 use pio_edge::{Shelf, Sink};
 use span_bounds::Table;
 use span_check::check;
+use span_texts::{Refusal, put_table, text_len};
 use span_verdict::Verdict;
 use stages::{limit_of, prepare_setup, span_named};
 use std::alloc::{AllocError, Global};
-use table_files::{put_table, text_len};
-use verdict_lines::Refusal;
 
 /// Writes the table of the first span of this name, the least closed one, where the span is provable and the text is no
 /// longer than a table file may be; else nothing. All memory is taken before the first piece is put.

@@ -9,10 +9,10 @@ use Rattle.word_file.specs.declared.fault.WordKind.{WordKind}
 use Rattle.word_file.specs.Fault.{code_of as word_code}
 use Rattle.dreq_pacing.specs.declared.fault.StimKind.{StimKind}
 use Rattle.dreq_pacing.specs.Fault.{code_of as stim_code}
-use Rattle.verdict_lines.specs.Lines.{refusal_line}
-use Rattle.table_files.specs.declared.fault.TableKind.{TableKind}
-use Rattle.table_files.specs.Faults.{code_of as table_code}
-use Rattle.table_files.specs.FlawLines.{flaw_line}
+use Rattle.span_texts.specs.VerdictLines.{refusal_line}
+use Rattle.span_texts.specs.declared.fault.TableKind.{TableKind}
+use Rattle.span_texts.specs.Faults.{code_of as table_code}
+use Rattle.span_texts.specs.FlawLines.{flaw_line}
 use Rattle.fault_lines.specs.Output.{Output}
 use Rattle.fault_lines.specs.declared.fault.File.{File}
 use Rattle.fault_lines.specs.declared.fault.File.TheVariants as file

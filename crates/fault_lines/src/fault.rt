@@ -8,10 +8,9 @@ use dreq_pacing::StimKind;
 use pio_assemble::SourceKind;
 use pio_edge::SinkFailed;
 use pio_encode::Name;
+use span_texts::{Refusal, TableKind};
 use span_verdict::Flaw;
 use std::alloc::AllocError;
-use table_files::TableKind;
-use verdict_lines::Refusal;
 use word_file::WordKind;
 
 /// A file that a command reads.

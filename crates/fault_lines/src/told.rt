@@ -12,8 +12,7 @@ use dreq_pacing::StimKind;
 use itoa::Buffer;
 use pio_assemble::{Quantity, SourceKind};
 use pio_edge::{Sink, SinkFailed, put_all};
-use table_files::{TableKind, put_flaw};
-use verdict_lines::put_refusal;
+use span_texts::{TableKind, put_flaw, put_refusal};
 use word_file::WordKind;
 
 /// The status with which a program ends.

@@ -2,8 +2,8 @@
 use pio_edge::MemSink;
 use pio_encode::Name;
 use span_bounds::{Cause, Context};
+use span_texts::{Finding, Refusal, put_refusal, put_verdict};
 use std::alloc::Global;
-use verdict_lines::{Finding, Refusal, put_refusal, put_verdict};
 
 /// Adds the line of a verdict. A row asks for the span's name and the verdict; on a line of its own, for the put that
 /// fails and the bytes that it takes.

@@ -5,10 +5,9 @@ use crate::setups::{is_configured, machine_of, span_of};
 use pin_matrix::{Setup, Span, Spans};
 use pio_edge::MemSink;
 use span_check::check;
+use span_texts::{Refusal, put_refusal, put_table};
 use span_verdict::Verdict;
 use std::alloc::Global;
-use table_files::put_table;
-use verdict_lines::{Refusal, put_refusal};
 
 /// Adds the rows of the least closed table, or the bad context with its cause. What is asked has the keys on a line,
 /// the words of the memory from address 0 on, and after ` | ` X, Y and the least and the greatest bound.

@@ -7,9 +7,9 @@ use crate::setups::{is_configured, span_of};
 use pin_matrix::{Follow, Setup, Span};
 use pio_edge::MemSink;
 use span_bounds::Table;
+use span_texts::{TableFault, put_flaw, put_rechecked, put_table, read_table};
 use span_verdict::{Verdict, flaw, is_proof, judge};
 use std::alloc::Global;
-use table_files::{TableFault, put_flaw, put_rechecked, put_table, read_table};
 
 /// Adds the line and the code of a file's first fault, or `read`. A row asks for the file; on a line before it, for how far X and Y
 /// are followed, if it isn't to 31.

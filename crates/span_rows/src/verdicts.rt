@@ -4,9 +4,9 @@ use crate::setups::{is_configured, span_of};
 use pin_matrix::{Setup, Span};
 use span_bounds::{Cause, Context, Table};
 use span_check::{check, recheck};
+use span_texts::{Finding, found_by};
 use span_verdict::Verdict;
 use std::alloc::{AllocError, Global};
-use verdict_lines::{Finding, found_by};
 
 /// Adds what a row says of its verdict, and the verdict.
 pub fn tell_verdict(

@@ -10,9 +10,9 @@ use Rattle.span_verdict.specs.Verdicts.{IsVerdict}
 use Rattle.span_verdict.specs.declared.verdict.Verdict.{Verdict}
 use Rattle.span_verdict.specs.declared.verdict.Verdict.TheVariants as verdict
 use Rattle.span_check.specs.Proved.{HoldsInEveryRun}
-use Rattle.verdict_lines.specs.declared.refusal.Finding.{Finding}
-use Rattle.verdict_lines.specs.declared.refusal.Refusal.{Refusal}
-use Rattle.verdict_lines.specs.Refusals.{found_by}
+use Rattle.span_texts.specs.declared.refusal.Finding.{Finding}
+use Rattle.span_texts.specs.declared.refusal.Refusal.{Refusal}
+use Rattle.span_texts.specs.Refusals.{found_by}
 use Rattle.stages.specs.Configured.{AreConfigured}
 use Rattle.stages.specs.Spans.{IsProvableAlone, AreProvable, AllHold, IsRefused, IsFirstRefused, IsVerdictOn, AreVerdicts, first_refused, IsFirstOf, AreJudged, IsNextVerdict}
 

@@ -25,8 +25,8 @@ use Rattle.word_file.specs.declared.fault.WordFault.{WordFault}
 use Rattle.word_file.specs.Reading.{word_file}
 use Rattle.pin_matrix.specs.declared.span.Span.{Span}
 use Rattle.span_bounds.specs.declared.row.Row.{Row}
-use Rattle.table_files.specs.Faults as table_file
-use Rattle.table_files.specs.Reading.{table_of}
+use Rattle.span_texts.specs.Faults as table_file
+use Rattle.span_texts.specs.Reading.{table_of}
 use Rattle.stages.specs.Named.{span_named}
 use Rattle.stages.specs.declared.pair.TwoBlocks.{TwoBlocks}
 

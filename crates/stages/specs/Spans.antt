@@ -14,11 +14,11 @@ use Rattle.span_bounds.specs.Tables.{IsProvable}
 use Rattle.span_verdict.specs.Sharing.{IsUnshared, IsLeastSharer}
 use Rattle.span_verdict.specs.Verdicts.{IsProved, IsUnproved}
 use Rattle.span_check.specs.Proved.{HoldsInEveryRun}
-use Rattle.verdict_lines.specs.declared.refusal.Finding.{Finding}
-use Rattle.verdict_lines.specs.declared.refusal.Refusal.{Refusal}
-use Rattle.verdict_lines.specs.declared.refusal.Refusal.TheVariants.{Unproved, Shared}
-use Rattle.verdict_lines.specs.Lines.{verdict_line}
-use Rattle.verdict_lines.specs.Refusals.{finding_of}
+use Rattle.span_texts.specs.declared.refusal.Finding.{Finding}
+use Rattle.span_texts.specs.declared.refusal.Refusal.{Refusal}
+use Rattle.span_texts.specs.declared.refusal.Refusal.TheVariants.{Unproved, Shared}
+use Rattle.span_texts.specs.VerdictLines.{verdict_line}
+use Rattle.span_texts.specs.Refusals.{finding_of}
 use Rattle.fault_lines.specs.declared.fault.Fault.{Fault}
 use Rattle.fault_lines.specs.declared.fault.Fault.TheVariants as fault
 

@@ -8,8 +8,8 @@ use fault_lines::Fault;
 use pin_matrix::{Setup, Span};
 use pio_encode::Name;
 use span_check::{a_provable_span_holds_in_every_run, check};
+use span_texts::{Finding, Refusal, found_by};
 use std::alloc::{AllocError, Global};
-use verdict_lines::{Finding, Refusal, found_by};
 
 /// The verdicts on all spans of a setup, in order; and the place of the first one that isn't provable, from 0 on, its
 /// name, and why.

@@ -8,8 +8,8 @@ use fault_lines::{Fault, File};
 use pin_matrix::Follow;
 use pio_edge::Shelf;
 use span_bounds::Table;
+use span_texts::{TableFault, read_table};
 use std::alloc::Global;
-use table_files::{TableFault, read_table};
 
 /// The table of a table file, where X and Y are followed so far.
 #[tactic(auto, unfolding(crate::specs::Judged::table_at))]

@@ -1,6 +1,6 @@
 use Rattle.std.proofs.Common.{Result, subst, sym}
-use Rattle.verdict_lines.specs.declared.refusal.Finding.{Finding}
-use Rattle.verdict_lines.specs.declared.refusal.Refusal.{Refusal}
+use Rattle.span_texts.specs.declared.refusal.Finding.{Finding}
+use Rattle.span_texts.specs.declared.refusal.Refusal.{Refusal}
 use Rattle.stages.specs.Spans.{IsVerdictOn}
 use Rattle.stages.proofs.Judging.{without_table}
 use Rattle.stages.proofs.spans.judge_span.Goals as goal

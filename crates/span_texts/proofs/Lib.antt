@@ -1,0 +1,12 @@
+pub mod Pieces
+pub mod Lengths
+pub mod Goings
+pub mod Forms
+pub mod Parted
+pub mod Digits
+pub mod Texts
+pub mod Readback
+pub mod Numerals
+pub mod OneText
+pub mod Rights
+pub mod LeastTold

@@ -1,0 +1,12 @@
+pub mod Words
+pub mod Refusals
+pub mod VerdictLines
+pub mod Rows
+pub mod Faults
+pub mod Numbers
+pub mod TableLines
+pub mod Reading
+pub mod Told
+pub mod FlawLines
+pub mod Fields
+pub mod Capped

@@ -1,7 +1,0 @@
-use Rattle.std.proofs.Common.{take}
-use Rattle.table_files.proofs.Parted.{IsField}
-use Rattle.table_files.proofs.fields.first_field.Given as goal
-
--- no blank so far
-abbrev pub invariant-loop-at : goal.invariant-loop-at
-invariant-loop-at l = IsField (take l.at l.text)

@@ -1,5 +1,0 @@
-use Rattle.table_files.proofs.Forms.{two_fields}
-use Rattle.table_files.proofs.form.open_in.Goals as goal
-
-pub returns-in-None : goal.returns-in-None
-returns-in-None c = two_fields c.args.lo.now c.args.hi.now c.args.fields _ _ _ c.in-None.ensures c.between.ensures c.number_in-least.ensures c.number_in-greatest.ensures

@@ -1,5 +1,0 @@
-use Rattle.table_files.proofs.Readback.{table_back}
-use Rattle.table_files.proofs.laws.a_table_is_read_back.Goals as goal
-
-pub returns : goal.returns
-returns c = table_back

@@ -1,9 +1,0 @@
-pub mod Faults
-pub mod Rows
-pub mod Numbers
-pub mod Lines
-pub mod Fields
-pub mod Capped
-pub mod Reading
-pub mod Told
-pub mod FlawLines
