@@ -2,7 +2,7 @@
 --   says_more        a span says more than two edges of levels and two bounds
 --   finding_of       what the line of a proved span says
 --   found_by         that, or why it isn't proved
-use Rattle.std.specs.Prelude.{ℕ, Bool, true, false, ◌||◌, ◌==◌, not, List, length, if◌then◌else◌, Option, Some, None, Result, Ok, Err}
+use Rattle.std.specs.Prelude.{ℕ, Bool, false, ◌||◌, ◌==◌, not, List, length, if◌then◌else◌, Option, Some, None, Result, Ok, Err}
 use Rattle.pin_matrix.specs.declared.span.PinSignal.{PinSignal}
 use Rattle.pin_matrix.specs.declared.span.PinSignal.TheVariants.{Level, Direction}
 use Rattle.pin_matrix.specs.declared.span.Span.{Span}

@@ -1,4 +1,4 @@
-//! What is written and read of spans: the line of a verdict, a table as a text that anyone can recheck, the line of its flaw.
+//! What is written and read of spans: the line of a verdict, a table as a text that can be rechecked, its flaw's line.
 #![tactic(auto)]
 
 // the line of a verdict
