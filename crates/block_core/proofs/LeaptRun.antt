@@ -15,7 +15,7 @@ use Rattle.sm_registers.specs.Intents.{no_intent, two_writes}
 use Rattle.sm_registers.specs.Idling.{stirs, only_waits}
 use Rattle.sm_registers.specs.State.{queues_of, settled_ports}
 use Rattle.sm_registers.specs.Tick.{tick_of}
-use Rattle.sm_registers.specs.Told.{AreUp}
+use Rattle.sm_registers.specs.StallFlags.{AreUp}
 use Rattle.dreq_pacing.specs.Due.{quiet, no_machine}
 use Rattle.block_core.specs.Block.{BlockState, Run, next, next_over, stepped, run_from, view_of, seen_over, pads_in, level_writes, direction_writes, with_all}
 use Rattle.block_core.specs.Kept.{memory_alone, IsTold, AreTold}
