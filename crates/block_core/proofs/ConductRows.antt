@@ -19,7 +19,7 @@ use Rattle.block_core.specs.Conduct.{clock_of_tick, conduct_at, conduct_before, 
 use Rattle.block_core.specs.Hosted.{host_of, hosted_next, hosted_at}
 use Rattle.block_core.specs.Shown.{requests_of, sample_of}
 use Rattle.block_core.specs.Slots.{acted, settled_slot}
-use Rattle.block_core.proofs.Rows.{plain, pulling, run}
+use Rattle.block_core.proofs.StirRows.{plain, pulling, run}
 
 -- whether a clock is of note, and what is told of it where it is
 abbrev noted_at : Run → List Line → ℕ → Bool

@@ -20,10 +20,6 @@ first_of_two p q (Some m) (Some n) ha hb =
           (ha.0, or_left (p m) (q m) ha.1, λ c le below. or_from (p c) (q c) (ha.2 c le below) (hb.2 c le (omega arith))))
     ]
 
--- where a test passes at once, no other counts
-pub first_at_once : (p q : ℕ → Bool) → IsFirst p 0 (Some 0) → IsFirst (λ c. p c || q c) 0 (Some 0)
-first_at_once p q h = (omega arith, or_left (p 0) (q 0) h.1, λ c le lt. absurd (omega (arith, lt)))
-
 -- a test that nothing passes doesn't count
 pub first_alone : (p q : ℕ → Bool) (a : Option ℕ) → ((c : ℕ) → q c ≡ false) → IsFirst p 0 a → IsFirst (λ c. p c || q c) 0 a
 first_alone p q None none h = λ c le. or_from (p c) (q c) (h c le) (none c)

@@ -4,7 +4,6 @@ use Rattle.clock_divider.specs.Ticks.{is_tick}
 use Rattle.fifo_pair.specs.Fifos.{settled}
 use Rattle.pin_matrix.specs.Pads.{first_synchroniser}
 use Rattle.pin_matrix.specs.Pins.{merged}
-use Rattle.pin_matrix.specs.declared.machine.MachineSetup.{MachineSetup}
 use Rattle.pio_encode.specs.Word.{wait_at, in_at, push_or_pull_at, mov_at, irq_at, set_at, act_of, side_of, delay_of, reading_of}
 use Rattle.sm_registers.specs.Effects.{jmp_effect, wait_effect, in_effect, out_effect, push_effect, pull_effect, mov_effect, irq_effect, set_effect, effect_of}
 use Rattle.sm_registers.specs.State.{settled_ports}
@@ -19,7 +18,7 @@ use Rattle.block_core.specs.Inside.{inside_of, inside_at, machine_inside}
 use Rattle.block_core.specs.Leaps.{leapt}
 use Rattle.block_core.specs.Shown.{requests_of, sample_of}
 use Rattle.block_core.specs.Slots.{acted, settled_slot}
-use Rattle.block_core.proofs.Rows.{plain, pulling, run}
+use Rattle.block_core.proofs.StirRows.{plain, pulling, run}
 
 -- machine 0 alone
 abbrev alone : MachineInside → List (Option MachineInside)

@@ -1,18 +1,18 @@
 -- When the machines of four places next stir over given pads, and what they are until then.
-use Rattle.std.proofs.Common.{◌≡◌, ℕ, ◌+◌, ◌≤◌, ◌^◌, ◌==◌, Bool, true, false, not, ◌&&◌, ◌||◌, ◌↔◌, IsTrue, Option, Some, None, List, refl, ap, sym, subst, arith}
+use Rattle.std.proofs.Common.{◌≡◌, ℕ, ◌+◌, ◌==◌, Bool, true, false, not, ◌&&◌, ◌||◌, ◌↔◌, IsTrue, Option, Some, None, List, refl, ap, sym, subst, arith}
 use Rattle.std.proofs.lemmas.Bool.Decides.{nat_tests}
 use Rattle.std.proofs.lemmas.Bool.{or_parts}
 use Rattle.pin_matrix.specs.Pads.{Synchroniser, seen_of}
 use Rattle.sm_registers.specs.View.{View}
 use Rattle.dreq_pacing.specs.Due.{quiet}
 use Rattle.dreq_pacing.specs.Ports.{IsFirst}
-use Rattle.block_core.specs.Kept.{IsInStep, HasTime}
+use Rattle.block_core.specs.Kept.{IsInStep}
 use Rattle.block_core.specs.Leaps.{leapt_place, leapt, stirs_after}
 use Rattle.block_core.specs.Slots.{Slot}
 use Rattle.block_core.specs.Stirring.{machines_stir_over}
 use Rattle.block_core.proofs.Firsts.{first_same}
 use Rattle.block_core.proofs.LeaptRun.{pads_same}
-use Rattle.block_core.proofs.Wanting.{view, run}
+use Rattle.block_core.proofs.MergedWants.{view, run}
 
 join : (t a b c e : Bool) → (t || (a || (b || (c || (e || false))))) ≡ ((((t || a) || b) || c) || e)
 join false false false false false = refl
@@ -76,11 +76,7 @@ not_settled false pad sync test = elim (unsettled pad sync) as (λ b. unsettled 
   | false ↦ λ e. let t : false ≡ true = test.1 (pads_same pad sync.pad_1 sync.pad_2 e) in cc
 ] refl
 
--- its places stay in step, and have the time
-pub has_time : (clock n : ℕ) (s : Option Slot) → clock + n ≤ 2 ^ 40 → IsInStep clock s → HasTime n s
-has_time clock n None le h = tt
-has_time clock n (Some s) le h = omega (arith, le, h.0)
-
+-- its places stay in step
 pub in_step_leapt : (clock n : ℕ) (s t : Option Slot) → IsInStep clock s → t ≡ leapt_place n s → IsInStep (clock + n) t
 in_step_leapt clock n s t h e = subst (IsInStep (clock + n)) (sym e) (leaps_in_step s h) where
   leaps_in_step : (s : Option Slot) → IsInStep clock s → IsInStep (clock + n) (leapt_place n s)

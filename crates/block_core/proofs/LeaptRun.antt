@@ -5,8 +5,6 @@ use Rattle.std.specs.Int.Bits.{or_zero_l, or_zero_r}
 use Rattle.std.specs.List.{AllByRecursion, list_any}
 use Rattle.std.proofs.lemmas.Bool.{or_parts}
 use Rattle.clock_divider.specs.Ticks.{is_tick, tick_count}
-use Rattle.fifo_pair.specs.Fifos.{Fifos, settled}
-use Rattle.pin_matrix.specs.declared.machine.MachineSetup.{MachineSetup}
 use Rattle.pin_matrix.specs.Pads as pads
 use Rattle.pin_matrix.specs.Pads.{Synchroniser}
 use Rattle.pin_matrix.specs.Pins.{merged}
@@ -14,18 +12,17 @@ use Rattle.sm_registers.specs.declared.registers.Registers.{Registers}
 use Rattle.sm_registers.specs.View.{View}
 use Rattle.sm_registers.specs.declared.intent.Intent.{Intent}
 use Rattle.sm_registers.specs.Intents.{no_intent, two_writes}
-use Rattle.sm_registers.specs.Idling.{stirs, only_counts, only_waits}
-use Rattle.sm_registers.specs.Queues.{Queues}
+use Rattle.sm_registers.specs.Idling.{stirs, only_waits}
 use Rattle.sm_registers.specs.State.{queues_of, settled_ports}
 use Rattle.sm_registers.specs.Tick.{tick_of}
-use Rattle.sm_registers.specs.Told.{IsKnown, AreUp}
+use Rattle.sm_registers.specs.StallFlags.{AreUp}
 use Rattle.dreq_pacing.specs.Due.{quiet, no_machine}
 use Rattle.block_core.specs.Block.{BlockState, Run, next, next_over, stepped, run_from, view_of, seen_over, pads_in, level_writes, direction_writes, with_all}
 use Rattle.block_core.specs.Kept.{memory_alone, IsTold, AreTold}
 use Rattle.block_core.specs.Leaps.{CalmLaws, ticks_in, leapt_slot, leapt_place, leapt}
 use Rattle.block_core.specs.Slots.{Slot, lined, has_tick, acted, settled_slot, slot_after, place_after, place_intent}
 use Rattle.block_core.specs.Stirring.{moves_on, moves_on_over, machines_stir_over, pads_change_over}
-use Rattle.block_core.proofs.Told.{known_in, told_leapt}
+use Rattle.block_core.proofs.StallFlags.{known_in, told_leapt}
 
 -- nothing is done at any place
 pub no_line : (id : ℕ) → slice_index_or no_machine id false ≡ false

@@ -2,10 +2,10 @@ pub mod Steps
 pub mod Runs
 pub mod Ticking
 pub mod Writes
-pub mod Wanting
+pub mod MergedWants
 pub mod OwnPlace
 pub mod Unused
-pub mod Told
+pub mod StallFlags
 pub mod LeaptRun
 pub mod Firsts
 pub mod LeaptSlot
@@ -15,8 +15,8 @@ pub mod Beginning
 pub mod LeaptTwin
 pub mod TwinRuns
 pub mod SimpleClocks
-pub mod Simple
-pub mod Rows
+pub mod SimpleSteps
+pub mod StirRows
 pub mod TwinRows
 pub mod InsideRows
 pub mod Insides

@@ -1,5 +1,5 @@
 -- A simple clock of a machine, in which the system does nothing: it wants no more than pins.
-use Rattle.std.proofs.Common.{◌≡◌, true, false, None, cond, refl, ap, subst, sym, ◌∙◌}
+use Rattle.std.proofs.Common.{◌≡◌, true, false, cond, refl, ap, subst, sym, ◌∙◌}
 use Rattle.std.specs.Int.Bits.{or_zero_l, or_zero_r}
 use Rattle.clock_divider.specs.Timing.{Timing, stepped}
 use Rattle.pin_matrix.specs.Pins.{merged}
@@ -8,7 +8,6 @@ use Rattle.sm_registers.specs.declared.registers.Registers.{Registers}
 use Rattle.sm_registers.specs.View.{View}
 use Rattle.sm_registers.specs.declared.intent.Intent.{Intent}
 use Rattle.sm_registers.specs.Intents.{Wants, no_intent, no_wants, wants_of, written_by}
-use Rattle.fifo_pair.specs.Fifos.{Fifos, settled}
 use Rattle.sm_registers.specs.Simple.{MakesTick}
 use Rattle.sm_registers.specs.State.{MachineState, queues_of, settled_ports}
 use Rattle.sm_registers.specs.Tick.{tick_of}
@@ -17,10 +16,7 @@ use Rattle.block_core.specs.declared.merging.Wanted.{Wanted}
 use Rattle.block_core.specs.Merging.{with_intent}
 use Rattle.block_core.specs.Slots.{MakesSimpleClock, Slot, lined, has_tick, acted, settled_slot, slot_after, slot_intent, slot_uses_fifos}
 use Rattle.block_core.proofs.LeaptRun.{no_line, no_word, lined_quiet, clock_on}
-
--- what the law of quiet FIFOs says
-abbrev pub StaysQuiet : Type 0
-StaysQuiet = (f : Fifos) → settled false None None false f ≡ f
+use Rattle.block_core.proofs.Unused.{StaysQuiet}
 
 -- its tick
 abbrev pub ticked : View → Slot → Registers × Intent

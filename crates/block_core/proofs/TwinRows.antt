@@ -17,7 +17,7 @@ use Rattle.block_core.specs.HostedTwin.{hosted_twin_next, hosted_twin_at, twin_s
 use Rattle.block_core.specs.Shown.{requests_of, sample_of}
 use Rattle.block_core.specs.Slots.{first_slot, acted, settled_slot}
 use Rattle.block_core.specs.Twin.{TwinRun, shared_pads}
-use Rattle.block_core.proofs.Rows.{plain}
+use Rattle.block_core.proofs.StirRows.{plain}
 
 -- `set pins, 1` on pin 0, forever
 abbrev sets_pin_0 : MachineSetup

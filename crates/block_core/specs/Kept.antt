@@ -1,7 +1,7 @@
 -- What a block keeps true of its fields, which no contract names.
 use Rattle.std.specs.Prelude.{◌≡◌, ℕ, ◌+◌, ◌^◌, ◌<◌, ◌≤◌, Bool, true, ◌&&◌, Option, Some, None, is_none, List, [], ◌∷◌}
 use Rattle.std.specs.List.{AllByRecursion}
-use Rattle.sm_registers.specs.Told.{IsKnown}
+use Rattle.sm_registers.specs.StallFlags.{IsKnown}
 use Rattle.sm_registers.specs.View.{View}
 use Rattle.block_core.specs.declared.running.Known.{Known}
 use Rattle.block_core.specs.declared.sample.Sample.{Sample}

@@ -13,7 +13,7 @@ use Rattle.sm_registers.specs.declared.registers.Registers.{Registers}
 use Rattle.sm_registers.specs.Idling.{stirs, only_counts, only_waits}
 use Rattle.sm_registers.specs.Queues.{Queues}
 use Rattle.sm_registers.specs.Tick.{tick_of}
-use Rattle.sm_registers.specs.Told.{IsKnown, AreUp}
+use Rattle.sm_registers.specs.StallFlags.{IsKnown, AreUp}
 use Rattle.sm_registers.specs.View.{View}
 use Rattle.dreq_pacing.specs.Due.{quiet}
 use Rattle.block_core.specs.Slots.{Slot, place_intent}

@@ -45,7 +45,7 @@ pub(crate) fn are_empty(
 /// A clock of a place, whose machine adds what it wants of the block. The sample, which has what was seen of the place,
 /// gets what is seen of it now. True where anything was done at its FIFOs, or at those of the machines before it.
 #[inline(always)]
-#[tactic(auto, using(crate::proofs::Wanting::nothing_added))]
+#[tactic(auto, using(crate::proofs::MergedWants::nothing_added))]
 pub(crate) fn step<F: Fifo>(
     slot: &mut Option<Slot<F>>,
     view: &View,

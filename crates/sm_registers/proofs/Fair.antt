@@ -1,5 +1,5 @@
 -- That a tick takes a word only where TX has one, and gives one only where RX has room.
-use Rattle.std.proofs.Common.{◌≡◌, ℕ, ◌-◌, ◌<◌, nat_lt, nat_le, Bool, true, false, cond, ◌&&◌, ◌||◌, Option, Some, None, is_some, IsSome, IsTrue, List, [], ◌∷◌, length, slice_get, refl, sym, subst, rules, arith}
+use Rattle.std.proofs.Common.{◌≡◌, ℕ, ◌-◌, ◌<◌, nat_lt, Bool, true, false, cond, ◌&&◌, ◌||◌, Option, Some, None, is_some, IsSome, IsTrue, List, [], ◌∷◌, length, slice_get, refl, sym, subst, rules, arith}
 use Rattle.std.proofs.lemmas.Bool.Decides.{nat_tests}
 use Rattle.std.proofs.lemmas.Bool.{not-true}
 use Rattle.pio_encode.specs.declared.act.Act.{Act}

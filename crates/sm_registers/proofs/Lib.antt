@@ -14,6 +14,6 @@ pub mod Waits
 pub mod Autopull
 pub mod OwnPins
 pub mod Stirs
-pub mod Told
+pub mod StallFlags
 mod RulesRows
 mod SeenRows

@@ -6,8 +6,6 @@ use Rattle.pio_encode.specs.declared.act.Act.{Act}
 use Rattle.pio_encode.specs.declared.act.Act.TheVariants.{Jmp, Wait, In, Out, Push, Pull, Mov, Irq, Set, Nothing}
 use Rattle.pio_encode.specs.declared.act.Condition.{Condition}
 use Rattle.pio_encode.specs.declared.act.Condition.TheVariants as condition
-use Rattle.pio_encode.specs.declared.act.InSource.{InSource}
-use Rattle.pio_encode.specs.declared.act.InSource.TheVariants as in_source
 use Rattle.pio_encode.specs.declared.act.OutDestination.{OutDestination}
 use Rattle.pio_encode.specs.declared.act.OutDestination.TheVariants as out_destination
 use Rattle.pio_encode.specs.declared.act.MovDestination.{MovDestination}
@@ -107,14 +105,6 @@ whole_counted_down condition.YDecrement r h = search (rules, cut)
 whole_counted_down condition.XNotY r h = h
 whole_counted_down condition.Pin r h = h
 whole_counted_down condition.OsrNotEmpty r h = h
-
-in_word_fits : (source : InSource) (s : MachineSetup) (v : View) (r : Registers) → v.seen < 2 ^ 32 → AreWhole r → in_word source s v r < 2 ^ 32
-in_word_fits in_source.Pins s v r h k = turned_fits v.seen s.in_base h (omega (arith, s.in_base_is_a_pin))
-in_word_fits in_source.X s v r h k = k.x
-in_word_fits in_source.Y s v r h k = k.y
-in_word_fits in_source.Null s v r h k = omega arith
-in_word_fits in_source.Isr s v r h k = k.isr
-in_word_fits in_source.Osr s v r h k = k.osr
 
 whole_bits_in : (word n : ℕ) (s : MachineSetup) (r : Registers) → n ≤ 32 → AreWhole r → AreWhole (with_bits_in word n s r)
 whole_bits_in word n s r h k = record {

@@ -1,7 +1,6 @@
 -- Which ticks stir, and how long a machine idles while nothing outside it changes.
 --   begins, finishes   a tick is the first of its instruction, or its last
 --   stirs              a tick begins or finishes an instruction, or refills the OSR
---   is_counting        the next tick only counts a delay
 --   only_counts        the registers after a tick that doesn't stir
 --   only_waits         what such a tick wants of its block
 --   after_ticks        the registers after some ticks
@@ -14,7 +13,7 @@
 --   idle_of            the ticks until one stirs
 --   IsIdle             what this number means
 --   IsSoon             it is below 32
-use Rattle.std.specs.Prelude.{◌≡◌, ℕ, zero, suc, ◌-◌, ◌<◌, ◌==◌, nat_lt, Bool, true, false, not, ◌&&◌, ◌||◌, if◌then◌else◌}
+use Rattle.std.specs.Prelude.{◌≡◌, ℕ, zero, suc, ◌-◌, ◌<◌, ◌==◌, Bool, true, false, not, ◌&&◌, ◌||◌, if◌then◌else◌}
 use Rattle.pio_encode.specs.declared.act.Act.{Act}
 use Rattle.pio_encode.specs.declared.act.Act.TheVariants.{Wait}
 use Rattle.pio_encode.specs.Word.{reading_of}
@@ -50,10 +49,6 @@ finishes Delay stalled = false
 -- refills (choice of this profile: which ticks stir).
 abbrev pub stirs : Intent → Bool
 stirs i = begins i.kind || (finishes i.kind i.stalled || i.take)
-
--- the next tick is one of a delay, and refills nothing
-abbrev pub is_counting : MachineSetup → Queues → Registers → Bool
-is_counting s q r = nat_lt 0 r.delay && not (refills s q r)
 
 -- the registers after a tick that doesn't stir: the delay counts, and a stall has none
 abbrev pub only_counts : Registers → Registers

@@ -11,5 +11,5 @@ pub mod Rules
 pub mod Idling
 pub mod Simple
 pub mod Plans
-pub mod Told
+pub mod StallFlags
 pub mod Ends

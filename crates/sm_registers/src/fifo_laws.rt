@@ -11,7 +11,7 @@ ghost use Rattle.sm_registers.specs.Queues as queues;
 ghost use Rattle.sm_registers.specs.Rules.{HoldsOrGives, bits_out, current_act, fills_osr, is_pull, raises, waits_for_tx};
 ghost use Rattle.sm_registers.specs.State.{queues_of};
 ghost use Rattle.sm_registers.specs.Tick.{after_effect, refills, tick_of};
-ghost use Rattle.sm_registers.specs.Told.{AreUp, IsKnown};
+ghost use Rattle.sm_registers.specs.StallFlags.{AreUp, IsKnown};
 ghost use Rattle.sm_registers.specs.declared.sticky.TheConstants.{TX_STALL};
 ghost use Rattle.sm_registers.specs.declared.registers.Registers as registers;
 ghost use Rattle.sm_registers.specs.View as view;

@@ -5,7 +5,7 @@ use Rattle.block_core.specs.Shown.{Shows}
 use Rattle.block_core.specs.Slots.{slot_intent}
 use Rattle.block_core.proofs.Showing.{still_shows}
 use Rattle.block_core.proofs.SimpleClocks.{adds_pins, uses_none}
-use Rattle.block_core.proofs.Wanting.{unused}
+use Rattle.block_core.proofs.MergedWants.{unused}
 use Rattle.block_core.proofs.place.step.Goals as goal
 
 pub returns-in-None-clause-wanted : goal.returns-in-None-clause-wanted

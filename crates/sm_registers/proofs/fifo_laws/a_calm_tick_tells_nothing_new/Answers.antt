@@ -1,5 +1,5 @@
 -- What a machine has told stays told.
-use Rattle.sm_registers.proofs.Told.{known_after, known_more, calm_raises}
+use Rattle.sm_registers.proofs.StallFlags.{known_after, known_more, calm_raises}
 use Rattle.sm_registers.proofs.fifo_laws.a_calm_tick_tells_nothing_new.Goals as goal
 
 pub returns-clause-after : goal.returns-clause-after

@@ -1,7 +1,7 @@
 use Rattle.std.proofs.Common.{ap, sym, ◌∙◌, arith}
 use Rattle.dreq_pacing.specs.Due.{quiet}
 use Rattle.block_core.specs.Block.{Run, Worked, next}
-use Rattle.block_core.proofs.Simple.{pads_stay}
+use Rattle.block_core.proofs.SimpleSteps.{pads_stay}
 use Rattle.block_core.proofs.Steps.{next_with}
 use Rattle.block_core.proofs.block.Block.quiet_clock.Goals as goal
 

@@ -9,11 +9,11 @@ use Rattle.block_core.specs.Shown.{sample_of}
 use Rattle.block_core.specs.Slots.{place_after, place_intent}
 use Rattle.block_core.specs.declared.sample.Sample.{Sample}
 use Rattle.block_core.proofs.Showing.{shows_first, first_new, outputs_new}
-use Rattle.block_core.proofs.Simple.{AllEmpty, IsSimple, all_empty, simple_run, simple_uses_none, simple_shows, stays_empty}
+use Rattle.block_core.proofs.SimpleSteps.{AllEmpty, IsSimple, all_empty, simple_run, simple_uses_none, simple_shows, stays_empty}
 use Rattle.block_core.proofs.SimpleClocks.{WantsPins}
 use Rattle.block_core.proofs.Steps.{in_step_after}
-use Rattle.block_core.proofs.Told.{place_told}
-use Rattle.block_core.proofs.Wanting.{view}
+use Rattle.block_core.proofs.StallFlags.{place_told}
+use Rattle.block_core.proofs.MergedWants.{view}
 use Rattle.block_core.proofs.running.Running.quiet_step.Given.{Over}
 use Rattle.block_core.proofs.running.Running.quiet_step.Goals as goal
 use Rattle.block_core.proofs.running.Running.quiet_step.Goals.{then-self-via-then-self, then-self-via-else-self+then-self-2}

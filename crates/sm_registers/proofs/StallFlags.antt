@@ -25,7 +25,7 @@ use Rattle.sm_registers.specs.Effects.{Effect, starves, with_bits_in, in_word, j
 use Rattle.sm_registers.specs.State.{queues_of}
 use Rattle.sm_registers.specs.Tick.{word_at, after_effect, refilled, osr_filled_from, tick_delay, tick_by, tick_of}
 use Rattle.sm_registers.specs.Idling.{stirs}
-use Rattle.sm_registers.specs.Told.{AreUp, IsToldAct, IsKnown}
+use Rattle.sm_registers.specs.StallFlags.{AreUp, IsToldAct, IsKnown}
 use Rattle.sm_registers.proofs.Autopull.{below_refilled}
 use Rattle.sm_registers.proofs.Ticks.{op_now, effect_now, in_delay, at_rest, sticky_is}
 use Rattle.sm_registers.proofs.Stirs.{calm_from}

@@ -8,7 +8,7 @@ use Rattle.sm_registers.specs.View.{View}
 use Rattle.sm_registers.specs.Intents.{no_intent}
 use Rattle.sm_registers.specs.State.{queues_of, settled_ports, told}
 use Rattle.sm_registers.specs.Tick.{word_at, tick_of}
-use Rattle.sm_registers.specs.Told.{IsKnown, IsToldAct}
+use Rattle.sm_registers.specs.StallFlags.{IsKnown, IsToldAct}
 use Rattle.dreq_pacing.specs.declared.due.Due.{Due}
 use Rattle.block_core.specs.Kept.{memory_alone, IsTold, AreTold}
 use Rattle.block_core.specs.Slots.{Slot, first_slot, lined, has_tick, acted, settled_slot, slot_after, place_after}

@@ -1,5 +1,5 @@
 -- A simple clock of a block of one machine.
-use Rattle.std.proofs.Common.{◌≡◌, ℕ, ◌+◌, Bool, true, false, Option, Some, None, option_map, is_none, List, refl, ap, sym, subst}
+use Rattle.std.proofs.Common.{◌≡◌, ℕ, ◌+◌, true, false, Option, Some, None, option_map, is_none, List, refl, ap, sym, subst}
 use Rattle.std.specs.Int.Bits.{or_zero_l}
 use Rattle.irq_flags.specs.Flags.{merged_flags}
 use Rattle.pin_matrix.specs.declared.machine.MachineSetup.{MachineSetup}
@@ -17,9 +17,10 @@ use Rattle.block_core.specs.Merging.{nothing_wanted, with_intent}
 use Rattle.block_core.specs.Leaps.{leapt_place}
 use Rattle.block_core.specs.Shown.{Shows, sample_of}
 use Rattle.block_core.specs.Slots.{Slot, first_slot, place_after, place_intent, place_uses_fifos, slot_after}
-use Rattle.block_core.proofs.SimpleClocks.{StaysQuiet, WantsPins, uses_none}
+use Rattle.block_core.proofs.SimpleClocks.{WantsPins, uses_none}
 use Rattle.block_core.proofs.Showing.{still_shows}
-use Rattle.block_core.proofs.Wanting.{IsStep, view, run, nothing_added, next_run, any_used}
+use Rattle.block_core.proofs.Unused.{StaysQuiet}
+use Rattle.block_core.proofs.MergedWants.{IsStep, view, run, nothing_added, next_run, any_used}
 
 -- which places are empty never changes
 after_is_empty : (v : View) (d : Due) (s : Option Slot) → is_none s ≡ is_none (place_after v d s)
