@@ -73,14 +73,14 @@ pub(crate) fn step<F: Fifo>(
             if slot
                 .simple_clock(view, &mut wanted.outputs, false)
                 .is_done() => used,
-        None => used | quiet_step(slot, view, wanted, place, sample),
+        None => used | quiet_tick(slot, view, wanted, place, sample),
         Some(due) => used | due_step(slot, view, due, wanted, place, sample),
     }
 }
 
 /// A tick of a machine in a clock in which the system does nothing. It is one piece of code, which all four call.
 #[inline(never)]
-fn quiet_step<F: Fifo>(
+fn quiet_tick<F: Fifo>(
     slot: &mut Slot<F>,
     view: &View,
     wanted: &mut Wanted,

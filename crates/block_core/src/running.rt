@@ -189,7 +189,8 @@ impl<F: Fifo> Running<F> {
         self.step_all(pad, Some(due))
     }
 
-    /// The same where the system does this, if anything. It is code of its own, which keeps that of most clocks short.
+    /// The same where the system does this, if anything. It is code of its own, which keeps that of a lone machine's clocks
+    /// short.
     #[cold]
     #[inline(never)]
     fn step_all(&mut self, pad: u32, due: Option<&Due>) -> bool

@@ -10,6 +10,7 @@ use Rattle.span_bounds.specs.declared.row.Row.{Row}
 use Rattle.dreq_pacing.specs.declared.line.Line.{Line}
 use Rattle.stages.specs.Named.{named_from, span_named}
 use Rattle.stages.proofs.Naming.{found_named}
+use Rattle.stages.proofs.Parts.{told, both_told}
 use Rattle.fault_lines.specs.Output.{Output}
 use Rattle.fault_lines.specs.declared.fault.File.{File}
 use Rattle.fault_lines.specs.declared.fault.File.TheVariants as file
@@ -27,17 +28,8 @@ use Rattle.commands.specs.Needs.{IsNamedAt}
 use Rattle.commands.specs.Tables.{IsTold, TellsTable, TellsRecheck}
 use Rattle.commands.proofs.Asking.{no_table}
 
--- what follows of known files from one fact, and from two
-told : (files : Option Files) (P R : Files → Type 0) → ((f : Files) → P f → R f) → IfSome files P → IfSome files R
-told None P R so p = tt
-told (Some f) P R so p = so f p
-
-both_told : (files : Option Files) (P Q R : Files → Type 0) → ((f : Files) → P f → Q f → R f) → IfSome files P → IfSome files Q → IfSome files R
-both_told None P Q R so p q = tt
-both_told (Some f) P Q R so p q = so f p q
-
 -- a task that the files come to is such
-if_right : (j : Judged Task) (task : Task) (P : Task → Type 0) → j ≡ right task → P task → IfRight j P
+pub if_right : (j : Judged Task) (task : Task) (P : Task → Type 0) → j ≡ right task → P task → IfRight j P
 if_right j task P e p = subst (λ (k : Judged Task). IfRight k P) (sym e) p
 
 -- a command ends where it does so with the shelf as it is after a stage that left it alone
@@ -145,23 +137,12 @@ tabled_ends files faults before after source config name u at sp (Err (fault.Unp
   out = h.1;
   shelf = refl;
 }
-tabled_ends files faults before after source config name u at sp (Err fault.Usage) found t h = absurd h
-tabled_ends files faults before after source config name u at sp (Err (fault.SecondUnproved place n refusal)) found t h = absurd h
-tabled_ends files faults before after source config name u at sp (Err fault.NoSpan) found t h = absurd h
-tabled_ends files faults before after source config name u at sp (Err (fault.Shelf role)) found t h = absurd h
 tabled_ends files faults before after source config name u at sp (Err (fault.TooLong file.Table)) found t h = record {
   text = told files _ _ (λ f e. if_right _ _ _ (judged_tabled f source config name u sp e) h.0.1) t;
   spans = told files _ _ (λ f e. if_right _ _ _ (judged_tabled f source config name u sp e) h.0.0) t;
   untouched = record { shelf = refl; out = h.1 };
 }
-tabled_ends files faults before after source config name u at sp (Err (fault.TooLong role)) found t h = absurd h
-tabled_ends files faults before after source config name u at sp (Err (fault.Words line kind)) found t h = absurd h
-tabled_ends files faults before after source config name u at sp (Err (fault.Source line kind)) found t h = absurd h
-tabled_ends files faults before after source config name u at sp (Err (fault.Config key kind)) found t h = absurd h
-tabled_ends files faults before after source config name u at sp (Err (fault.Second key kind)) found t h = absurd h
-tabled_ends files faults before after source config name u at sp (Err (fault.Stim line kind)) found t h = absurd h
-tabled_ends files faults before after source config name u at sp (Err (fault.Table line kind)) found t h = absurd h
-tabled_ends files faults before after source config name u at sp (Err (fault.Flaw place n flaw)) found t h = absurd h
+tabled_ends files faults before after source config name u at sp (Err e) found t h = absurd h
 
 -- ---- a table that is rechecked
 
@@ -208,17 +189,7 @@ rechecked_ends files faults before after source config name file u at sp rows (E
   first = both_told files _ _ _ (λ f e g. if_right _ _ _ (judged_rechecked f source config name file u sp rows e g) (told_at u at sp name place n found h.0.0, h.0.1)) s t;
   untouched = record { shelf = refl; out = h.1 };
 }
-rechecked_ends files faults before after source config name file u at sp rows (Err fault.Usage) found s t h = absurd h
-rechecked_ends files faults before after source config name file u at sp rows (Err (fault.SecondUnproved place n refusal)) found s t h = absurd h
-rechecked_ends files faults before after source config name file u at sp rows (Err fault.NoSpan) found s t h = absurd h
-rechecked_ends files faults before after source config name file u at sp rows (Err (fault.Shelf role)) found s t h = absurd h
-rechecked_ends files faults before after source config name file u at sp rows (Err (fault.TooLong role)) found s t h = absurd h
-rechecked_ends files faults before after source config name file u at sp rows (Err (fault.Words line kind)) found s t h = absurd h
-rechecked_ends files faults before after source config name file u at sp rows (Err (fault.Source line kind)) found s t h = absurd h
-rechecked_ends files faults before after source config name file u at sp rows (Err (fault.Config key kind)) found s t h = absurd h
-rechecked_ends files faults before after source config name file u at sp rows (Err (fault.Second key kind)) found s t h = absurd h
-rechecked_ends files faults before after source config name file u at sp rows (Err (fault.Stim line kind)) found s t h = absurd h
-rechecked_ends files faults before after source config name file u at sp rows (Err (fault.Table line kind)) found s t h = absurd h
+rechecked_ends files faults before after source config name file u at sp rows (Err e) found s t h = absurd h
 
 -- ---- what the stages that read fail with
 
@@ -236,7 +207,7 @@ shelf_fails a files before after out role (Some name) Reached named reached h r 
 
 -- A stage that reads files of a command, and comes to them only where the command does, ends it where it fails. What its files
 -- come to is what the command's do.
-read_fails : {X : Type 0} (a : Asked) (files : Option Files) (before after : Faults) (out : Output) (plan : Plan X) (e : Fault)
+pub read_fails : {X : Type 0} (a : Asked) (files : Option Files) (before after : Faults) (out : Output) (plan : Plan X) (e : Fault)
     → ((role : File) (name : List ℕ) → name_in plan.slots role ≡ Some name → file_in a role ≡ Some name)
     → ((role : File) (name : List ℕ) → name_in plan.slots role ≡ Some name → IfSome files (λ f. plan.reaches f role ≡ true)
     → IfSome files (λ f. reaches f a role ≡ true))
@@ -255,13 +226,7 @@ read_fails a files before after out plan (fault.Unproved place n refusal) named 
 read_fails a files before after out plan (fault.Flaw place n flaw) named reached wrongs long h = absurd h
 read_fails a files before after out plan (fault.TooLong role) named reached wrongs long h =
     long role refl (record { judged = wrongs h.1; untouched = record { shelf = h.0; out = refl } })
-read_fails a files before after out plan (fault.Words line kind) named reached wrongs long h = record { judged = wrongs h.1; untouched = record { shelf = h.0; out = refl } }
-read_fails a files before after out plan (fault.Source line kind) named reached wrongs long h = record { judged = wrongs h.1; untouched = record { shelf = h.0; out = refl } }
-read_fails a files before after out plan (fault.Config key kind) named reached wrongs long h = record { judged = wrongs h.1; untouched = record { shelf = h.0; out = refl } }
-read_fails a files before after out plan (fault.Second key kind) named reached wrongs long h = record { judged = wrongs h.1; untouched = record { shelf = h.0; out = refl } }
-read_fails a files before after out plan (fault.Stim line kind) named reached wrongs long h = record { judged = wrongs h.1; untouched = record { shelf = h.0; out = refl } }
-read_fails a files before after out plan (fault.Table line kind) named reached wrongs long h = record { judged = wrongs h.1; untouched = record { shelf = h.0; out = refl } }
-read_fails a files before after out plan fault.NoSpan named reached wrongs long h = record { judged = wrongs h.1; untouched = record { shelf = h.0; out = refl } }
+read_fails a files before after out plan e named reached wrongs long h = record { judged = wrongs h.1; untouched = record { shelf = h.0; out = refl } }
 
 none_named : (name : List ℕ) → ◌≡◌ {A = Option (List ℕ)} None (Some name) → ⊥
 none_named name e = cc

@@ -13,3 +13,4 @@ pub mod Seen
 pub mod Stopping
 pub mod Enough
 pub mod Sent
+pub mod Obeying

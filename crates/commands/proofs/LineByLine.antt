@@ -1,5 +1,5 @@
 -- The lines of spans, one after the other.
-use Rattle.std.proofs.Common.{◌≡◌, ◌∙◌, ℕ, zero, suc, ◌+◌, ◌++◌, ◌<◌, ◌≤◌, arith, Option, Some, None, List, [], ◌∷◌, length, drop, get_or, map, refl, sym, ap, ap₂}
+use Rattle.std.proofs.Common.{◌≡◌, ◌∙◌, ℕ, zero, suc, ◌+◌, ◌++◌, ◌<◌, ◌≤◌, arith, Some, List, [], ◌∷◌, length, drop, get_or, map, refl, sym, ap}
 use Rattle.std.specs.Prelude.{slice_get}
 use Rattle.std.specs.List.{flat_map}
 use Rattle.pin_matrix.specs.declared.span.Span.{Span}

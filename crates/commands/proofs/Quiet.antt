@@ -15,14 +15,15 @@ use Rattle.fault_lines.specs.declared.fault.Fault.TheVariants as fault
 use Rattle.clap.specs.Walk.{Text}
 use Rattle.command_line.specs.Words.{Asked, table, WordsAreTaken}
 use Rattle.stages.specs.Judged.{Judged, right, wrong, IfRight}
+use Rattle.stages.specs.Spans.{IsFirstRefused}
 use Rattle.stages.specs.Stages.{HasSuch}
-use Rattle.commands.specs.Tasks.{Task, tabled, need_of, judge, file_in, HasText, HasLongText}
-use Rattle.commands.specs.Needs.{Need, nothing, all_spans, both_spans, one_span, by_table, IsMet, IsNamedAt, IsRefusedBy, IsSecondRefusedBy, IsFlawed}
+use Rattle.commands.specs.Tasks.{Task, listing, trace, twin_trace, verdicts, tabled, rechecked, judge, file_in, HasText, HasLongText}
+use Rattle.commands.specs.Needs.{IsMet, IsNamedAt, IsRefusedBy, IsSecondRefusedBy, IsFlawed}
 use Rattle.commands.specs.Outside.{Call}
 use Rattle.commands.specs.Promise.{Ends, EndsTooLong}
 use Rattle.commands.specs.Ends.{EndsAs}
 use Rattle.commands.specs.Wanted.{wanted}
-use Rattle.commands.specs.Complete.{EndsByTask, EndsByFiles, FilesDecide}
+use Rattle.commands.specs.Complete.{EndsBySpans, EndsByTask, EndsByFiles, FilesDecide}
 use Rattle.commands.proofs.NeverBoth.{not_both, never_both}
 
 -- of known files, what holds of them holds
@@ -50,47 +51,54 @@ least_same u sp m n p q =
     not_below u sp m n p q lt = let e = p.first n lt in let f = q.sharing in cc
 
 -- all was done where what the task needs is met
-of_done : (c : Call) (task : Task) (need : Need) → TookText c task → IsMet need → EndsByTask c task None need
-of_done c task nothing h p = (refl, h)
-of_done c task (all_spans u) h p = record { provable = λ all. (refl, h); unprovable = λ not. absurd (not p) }
-of_done c task (both_spans s t) h p = record {
+of_done : (c : Call) (task : Task) → TookText c task → IsMet task → EndsByTask c task None
+of_done c (listing text) h p = (refl, h)
+of_done c (trace u text) h p = record { provable = λ all. (refl, h); unprovable = λ not. absurd (not p) }
+of_done c (twin_trace s t text) h p = record {
   provable = λ all too. (refl, h);
   first_unprovable = λ not. absurd (not p.0);
   second_unprovable = λ all not. absurd (not p.1);
 }
-of_done c task (one_span u sp) h p = record { provable = λ here. inl (refl, h); unprovable = λ not. absurd (not p) }
-of_done c task (by_table u sp rows) h p = record {
+of_done c (verdicts u) h p = record { provable = λ all. (refl, h); unprovable = λ not. absurd (not p) }
+of_done c (tabled u sp) h p = record { provable = λ here. inl (refl, h); unprovable = λ not. absurd (not p) }
+of_done c (rechecked u sp rows) h p = record {
   shared = λ m least. absurd (not_shared u sp m p.alone least);
   proved = λ here. (refl, h);
   unproved = λ alone not. absurd (not p.closed p.good);
 }
 
-of_right : (c : Call) (j : Judged Task) → IfRight j (TookText c) → IfRight j (λ task. IsMet (need_of task)) → EndsByFiles c j None
-of_right c (right task) h p = of_done c task (need_of task) h p
+of_right : (c : Call) (j : Judged Task) → IfRight j (TookText c) → IfRight j IsMet → EndsByFiles c j None
+of_right c (right task) h p = of_done c task h p
 of_right c (wrong e) h p = absurd h
 
 -- a span is named by its own name
 own_name : (u : Setup) (sp : Span) (place : ℕ) (name : List ℕ) → IsNamedAt u sp place name → IsNamedAt u sp place sp.name
 own_name u sp place name h = subst (IsNamedAt u sp place) (sym h.named) h
 
--- the first span that isn't provable
-of_first : (c : Call) (task : Task) (need : Need) (place : ℕ) (name : List ℕ) (r : Refusal) → IsRefusedBy need place name r → EndsByTask c task (Some (fault.Unproved place name r)) need
-of_first c task nothing place name r h = absurd h
-of_first c task (all_spans u) place name r h = record {
+-- the first span of a setup that isn't provable
+of_spans : (c : Call) (task : Task) (u : Setup) (place : ℕ) (name : List ℕ) (r : Refusal) → IsFirstRefused u u.spans place name r
+    → EndsBySpans c task (Some (fault.Unproved place name r)) u
+of_spans c task u place name r h = record {
   provable = λ all. absurd (never_both u u.spans place name r all h);
   unprovable = λ not. record { place = place; name = name; refusal = r; fault = refl; first = h };
 }
-of_first c task (both_spans s t) place name r h = record {
+
+-- the first span of a task that isn't provable
+of_first : (c : Call) (task : Task) (place : ℕ) (name : List ℕ) (r : Refusal) → IsRefusedBy task place name r → EndsByTask c task (Some (fault.Unproved place name r))
+of_first c (listing text) place name r h = absurd h
+of_first c (trace u text) place name r h = of_spans c (trace u text) u place name r h
+of_first c (twin_trace s t text) place name r h = record {
   provable = λ all too. absurd (never_both s s.spans place name r all h);
   first_unprovable = λ not. record { place = place; name = name; refusal = r; fault = refl; first = h };
   second_unprovable = λ all not. absurd (never_both s s.spans place name r all h);
 }
-of_first c task (one_span u sp) place name r h = record {
+of_first c (verdicts u) place name r h = of_spans c (verdicts u) u place name r h
+of_first c (tabled u sp) place name r h = record {
   provable = λ here. absurd (not_both u sp r here h.1);
   unprovable = λ not. record { place = place; named = own_name u sp place name h.0; refusal = r; why = h.1; fault = ap (λ (n : List ℕ). Some (fault.Unproved place n r)) (sym h.0.named) };
 }
-of_first c task (by_table u sp rows) place name (Unproved k cause) h = absurd h.1
-of_first c task (by_table u sp rows) place name (Shared m) h = record {
+of_first c (rechecked u sp rows) place name (Unproved k cause) h = absurd h.1
+of_first c (rechecked u sp rows) place name (Shared m) h = record {
   shared = λ n least. record {
     place = place;
     named = own_name u sp place name h.0;
@@ -101,33 +109,26 @@ of_first c task (by_table u sp rows) place name (Shared m) h = record {
   unproved = λ alone not. absurd (not_shared u sp m alone h.1);
 }
 
-of_refused : (c : Call) (j : Judged Task) (place : ℕ) (name : List ℕ) (r : Refusal) → IfRight j (λ task. IsRefusedBy (need_of task) place name r) → EndsByFiles c j (Some (fault.Unproved place name r))
-of_refused c (right task) place name r h = of_first c task (need_of task) place name r h
+of_refused : (c : Call) (j : Judged Task) (place : ℕ) (name : List ℕ) (r : Refusal) → IfRight j (λ task. IsRefusedBy task place name r) → EndsByFiles c j (Some (fault.Unproved place name r))
+of_refused c (right task) place name r h = of_first c task place name r h
 of_refused c (wrong e) place name r h = absurd h
 
 -- the first span of the second block that isn't provable
-of_second : (c : Call) (task : Task) (need : Need) (place : ℕ) (name : List ℕ) (r : Refusal) → IsSecondRefusedBy need place name r → EndsByTask c task (Some (fault.SecondUnproved place name r)) need
-of_second c task nothing place name r h = absurd h
-of_second c task (all_spans u) place name r h = absurd h
-of_second c task (both_spans s t) place name r h = record {
+of_second : (c : Call) (task : Task) (place : ℕ) (name : List ℕ) (r : Refusal) → IsSecondRefusedBy task place name r → EndsByTask c task (Some (fault.SecondUnproved place name r))
+of_second c (twin_trace s t text) place name r h = record {
   provable = λ all too. absurd (never_both t t.spans place name r too h.1);
   first_unprovable = λ not. absurd (not h.0);
   second_unprovable = λ all not. record { place = place; name = name; refusal = r; fault = refl; first = h.1 };
 }
-of_second c task (one_span u sp) place name r h = absurd h
-of_second c task (by_table u sp rows) place name r h = absurd h
+of_second c task place name r h = absurd h
 
-of_second_refused : (c : Call) (j : Judged Task) (place : ℕ) (name : List ℕ) (r : Refusal) → IfRight j (λ task. IsSecondRefusedBy (need_of task) place name r) → EndsByFiles c j (Some (fault.SecondUnproved place name r))
-of_second_refused c (right task) place name r h = of_second c task (need_of task) place name r h
+of_second_refused : (c : Call) (j : Judged Task) (place : ℕ) (name : List ℕ) (r : Refusal) → IfRight j (λ task. IsSecondRefusedBy task place name r) → EndsByFiles c j (Some (fault.SecondUnproved place name r))
+of_second_refused c (right task) place name r h = of_second c task place name r h
 of_second_refused c (wrong e) place name r h = absurd h
 
 -- the first flaw of a table
-of_flaw : (c : Call) (task : Task) (need : Need) (place : ℕ) (name : List ℕ) (flaw : Flaw) → IsFlawed need place name flaw → EndsByTask c task (Some (fault.Flaw place name flaw)) need
-of_flaw c task nothing place name flaw h = absurd h
-of_flaw c task (all_spans u) place name flaw h = absurd h
-of_flaw c task (both_spans s t) place name flaw h = absurd h
-of_flaw c task (one_span u sp) place name flaw h = absurd h
-of_flaw c task (by_table u sp rows) place name flaw h = record {
+of_flaw : (c : Call) (task : Task) (place : ℕ) (name : List ℕ) (flaw : Flaw) → IsFlawed task place name flaw → EndsByTask c task (Some (fault.Flaw place name flaw))
+of_flaw c (rechecked u sp rows) place name flaw h = record {
   shared = λ m least. absurd (not_shared u sp m h.1.alone least);
   proved = λ here. absurd (h.1.unproved here.closed here.good);
   unproved = λ alone not. record {
@@ -138,9 +139,10 @@ of_flaw c task (by_table u sp rows) place name flaw h = record {
     fault = ap (λ (t : List ℕ). Some (fault.Flaw place t flaw)) (sym h.0.named);
   };
 }
+of_flaw c task place name flaw h = absurd h
 
-of_flawed : (c : Call) (j : Judged Task) (place : ℕ) (name : List ℕ) (flaw : Flaw) → IfRight j (λ task. IsFlawed (need_of task) place name flaw) → EndsByFiles c j (Some (fault.Flaw place name flaw))
-of_flawed c (right task) place name flaw h = of_flaw c task (need_of task) place name flaw h
+of_flawed : (c : Call) (j : Judged Task) (place : ℕ) (name : List ℕ) (flaw : Flaw) → IfRight j (λ task. IsFlawed task place name flaw) → EndsByFiles c j (Some (fault.Flaw place name flaw))
+of_flawed c (right task) place name flaw h = of_flaw c task place name flaw h
 of_flawed c (wrong e) place name flaw h = absurd h
 
 -- a fault of the files
@@ -152,11 +154,11 @@ of_faulty : (c : Call) (f : Files) (a : Asked) (e : Fault) → c.files ≡ Some 
 of_faulty c f a e told h = of_wrong c (judge f a) e (of_told (λ g. judge g a ≡ wrong e) c.files f told h)
 
 -- the text of the table of a provable span is too long
-long_task : (c : Call) (task : Task) → HasLongText task → IsMet (need_of task) → EndsByTask c task (Some (fault.TooLong file.Table)) (need_of task)
+long_task : (c : Call) (task : Task) → HasLongText task → IsMet task → EndsByTask c task (Some (fault.TooLong file.Table))
 long_task c (tabled u sp) h p = record { provable = λ here. inr (refl, h); unprovable = λ not. absurd (not p) }
 long_task c task h p = absurd h
 
-of_long : (c : Call) (j : Judged Task) → IfRight j HasLongText → IfRight j (λ task. IsMet (need_of task)) → EndsByFiles c j (Some (fault.TooLong file.Table))
+of_long : (c : Call) (j : Judged Task) → IfRight j HasLongText → IfRight j IsMet → EndsByFiles c j (Some (fault.TooLong file.Table))
 of_long c (right task) h p = long_task c task h p
 of_long c (wrong e) h p = absurd h
 
@@ -164,7 +166,7 @@ of_long c (wrong e) h p = absurd h
 of_too_long : (c : Call) (f : Files) (a : Asked) (role : File) → c.files ≡ Some f → EndsTooLong a c role → EndsByFiles c (judge f a) (Some (fault.TooLong role))
 of_too_long c f (table source config name) file.Table told h =
     of_long c (judge f (table source config name)) (of_told (λ g. IfRight (judge g (table source config name)) HasLongText) c.files f told h.text)
-    (of_told (λ g. IfRight (judge g (table source config name)) (λ task. IsMet (need_of task))) c.files f told h.spans)
+    (of_told (λ g. IfRight (judge g (table source config name)) IsMet) c.files f told h.spans)
 of_too_long c f a role told h = of_faulty c f a (fault.TooLong role) told h.judged
 
 -- a failed fetch raises the count
@@ -176,40 +178,21 @@ failed_rose (Some n) before after h = subst (λ (a : Faults). Rose before.count 
 ends_by_files : (asked : Option Asked) (c : Call) (f : Files) (found : Option Fault) → Ends asked c found → c.files ≡ Some f → found ≢ Some fault.Usage → found ≢ Some fault.Memory → (Rose c.shelf_before.count c.shelf_after.count → ⊥) → (Rose c.out_before.faults c.out_after.faults → ⊥) → HasSuch asked (λ a. EndsByFiles c (judge f a) found)
 ends_by_files (Some a) c f None h told usage memory shelf out =
     of_right c (judge f a) (of_told (λ g. IfRight (judge g a) (TookText c)) c.files f told h.writes.text)
-    (of_told (λ g. IfRight (judge g a) (λ task. IsMet (need_of task))) c.files f told h.spans)
-ends_by_files None c f None h told usage memory shelf out = absurd h
+    (of_told (λ g. IfRight (judge g a) IsMet) c.files f told h.spans)
 ends_by_files asked c f (Some fault.Usage) h told usage memory shelf out = absurd (usage refl)
 ends_by_files asked c f (Some fault.Memory) h told usage memory shelf out = absurd (memory refl)
 ends_by_files (Some a) c f (Some (fault.Shelf role)) h told usage memory shelf out =
     absurd (shelf (failed_rose (file_in a role) c.shelf_before c.shelf_after h.named))
 ends_by_files (Some a) c f (Some (fault.Unproved place name r)) h told usage memory shelf out =
-    of_refused c (judge f a) place name r (of_told (λ g. IfRight (judge g a) (λ task. IsRefusedBy (need_of task) place name r)) c.files f told h.first)
+    of_refused c (judge f a) place name r (of_told (λ g. IfRight (judge g a) (λ task. IsRefusedBy task place name r)) c.files f told h.first)
 ends_by_files (Some a) c f (Some (fault.SecondUnproved place name r)) h told usage memory shelf out =
-    of_second_refused c (judge f a) place name r (of_told (λ g. IfRight (judge g a) (λ task. IsSecondRefusedBy (need_of task) place name r)) c.files f told h.first)
+    of_second_refused c (judge f a) place name r (of_told (λ g. IfRight (judge g a) (λ task. IsSecondRefusedBy task place name r)) c.files f told h.first)
 ends_by_files (Some a) c f (Some (fault.Flaw place name flaw)) h told usage memory shelf out =
-    of_flawed c (judge f a) place name flaw (of_told (λ g. IfRight (judge g a) (λ task. IsFlawed (need_of task) place name flaw)) c.files f told h.first)
+    of_flawed c (judge f a) place name flaw (of_told (λ g. IfRight (judge g a) (λ task. IsFlawed task place name flaw)) c.files f told h.first)
 ends_by_files (Some a) c f (Some fault.Out) h told usage memory shelf out = absurd (out h.rose)
 ends_by_files (Some a) c f (Some (fault.TooLong role)) h told usage memory shelf out = of_too_long c f a role told h
-ends_by_files (Some a) c f (Some (fault.Words line kind)) h told usage memory shelf out = of_faulty c f a _ told h.judged
-ends_by_files (Some a) c f (Some (fault.Source line kind)) h told usage memory shelf out = of_faulty c f a _ told h.judged
-ends_by_files (Some a) c f (Some (fault.Config key kind)) h told usage memory shelf out = of_faulty c f a _ told h.judged
-ends_by_files (Some a) c f (Some (fault.Second key kind)) h told usage memory shelf out = of_faulty c f a _ told h.judged
-ends_by_files (Some a) c f (Some (fault.Stim line kind)) h told usage memory shelf out = of_faulty c f a _ told h.judged
-ends_by_files (Some a) c f (Some (fault.Table line kind)) h told usage memory shelf out = of_faulty c f a _ told h.judged
-ends_by_files (Some a) c f (Some fault.NoSpan) h told usage memory shelf out = of_faulty c f a _ told h.judged
-ends_by_files None c f (Some (fault.Shelf role)) h told usage memory shelf out = absurd h
-ends_by_files None c f (Some (fault.Unproved place name r)) h told usage memory shelf out = absurd h
-ends_by_files None c f (Some (fault.SecondUnproved place name r)) h told usage memory shelf out = absurd h
-ends_by_files None c f (Some (fault.Flaw place name flaw)) h told usage memory shelf out = absurd h
-ends_by_files None c f (Some fault.Out) h told usage memory shelf out = absurd h
-ends_by_files None c f (Some (fault.TooLong role)) h told usage memory shelf out = absurd h
-ends_by_files None c f (Some (fault.Words line kind)) h told usage memory shelf out = absurd h
-ends_by_files None c f (Some (fault.Source line kind)) h told usage memory shelf out = absurd h
-ends_by_files None c f (Some (fault.Config key kind)) h told usage memory shelf out = absurd h
-ends_by_files None c f (Some (fault.Second key kind)) h told usage memory shelf out = absurd h
-ends_by_files None c f (Some (fault.Stim line kind)) h told usage memory shelf out = absurd h
-ends_by_files None c f (Some (fault.Table line kind)) h told usage memory shelf out = absurd h
-ends_by_files None c f (Some fault.NoSpan) h told usage memory shelf out = absurd h
+ends_by_files (Some a) c f (Some e) h told usage memory shelf out = of_faulty c f a e told h.judged
+ends_by_files None c f found h told usage memory shelf out = absurd h
 
 -- the files decide how a call ends that ends as promised, and not with Usage where its words are taken
 pub files_decide : (words : List Text) (c : Call) (found : Option Fault) → EndsAs words c found → (WordsAreTaken words → found ≢ Some fault.Usage) → FilesDecide words c found

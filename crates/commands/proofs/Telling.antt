@@ -1,7 +1,9 @@
 -- The fault of a span that isn't provable, of a table with a flaw, and of a text that was written.
-use Rattle.std.proofs.Common.{◌≡◌, ℕ, ◌≤◌, length, List, Result, Ok, Err, inl, inr, refl, sym, subst}
+use Rattle.std.proofs.Common.{◌≡◌, ℕ, ◌≤◌, Bool, length, List, Result, Ok, Err, inl, inr, refl, sym, subst}
 use Rattle.pin_matrix.specs.declared.setup.Setup.{Setup}
 use Rattle.pin_matrix.specs.declared.span.Span.{Span}
+use Rattle.span_step.specs.Contexts.{Context}
+use Rattle.span_step.specs.declared.cause.Cause.{Cause}
 use Rattle.span_bounds.specs.declared.row.Row.{Row}
 use Rattle.span_bounds.specs.Answers.{IsGoodLeast}
 use Rattle.span_bounds.specs.Tables.{FollowedRows}
@@ -11,6 +13,7 @@ use Rattle.span_verdict.specs.declared.verdict.Verdict.{Verdict}
 use Rattle.span_verdict.specs.declared.verdict.Verdict.TheVariants as verdict
 use Rattle.span_verdict.specs.Verdicts.{IsVerdict}
 use Rattle.span_texts.specs.declared.refusal.Refusal.{Refusal}
+use Rattle.span_texts.specs.declared.refusal.Refusal.TheVariants.{Unproved, Shared}
 use Rattle.span_texts.specs.FlawLines.{rechecked_line}
 use Rattle.span_texts.specs.Rows.{table_text}
 use Rattle.fault_lines.specs.declared.fault.File.TheVariants as file
@@ -21,10 +24,10 @@ use Rattle.stages.specs.Judged.{limit}
 use Rattle.stages.specs.Spans.{IsProvableAlone, IsRefused}
 use Rattle.commands.specs.Needs.{HasFlaw, IsProvedBy, IsSharedBy}
 use Rattle.commands.specs.Written.{Writes}
-use Rattle.commands.specs.Tables.{IsTableVerdict, IsRefusalOf, IsFlawOf, TellsTable, TellsText, TellsRecheck, table_or}
+use Rattle.commands.specs.Tables.{IsRefusalOf, IsFlawOf, TellsTable, TellsText, TellsRecheck}
 
 -- a span that isn't provable is named, or memory ran out
-pub refused_tells : (u : Setup) (at : ℕ) (sp : Span) (out : Output) (refusal : Refusal) (e : Fault) → IsRefused u sp refusal → IsRefusalOf at sp refusal e → TellsTable u at sp out out (Err e)
+refused_tells : (u : Setup) (at : ℕ) (sp : Span) (out : Output) (refusal : Refusal) (e : Fault) → IsRefused u sp refusal → IsRefusalOf at sp refusal e → TellsTable u at sp out out (Err e)
 refused_tells u at sp out refusal e h (inl is) = subst (λ (x : Fault). TellsTable u at sp out out (Err x)) (sym is) (((refl, refl), h), refl)
 refused_tells u at sp out refusal e h (inr is) = subst (λ (x : Fault). TellsTable u at sp out out (Err x)) (sym is) refl
 
@@ -44,19 +47,7 @@ pub written_tells : (u : Setup) (at : ℕ) (sp : Span) (rows : List Row) (before
 written_tells u at sp rows before after (Ok done) p k g short w = (p, (k, (rows, g, (short, w))))
 written_tells u at sp rows before after (Err fault.Out) p k g short w = (p, (rows, g, (short, w)))
 written_tells u at sp rows before after (Err fault.Memory) p k g short w = w
-written_tells u at sp rows before after (Err fault.Usage) p k g short w = absurd w
-written_tells u at sp rows before after (Err (fault.SecondUnproved place n refusal)) p k g short w = absurd w
-written_tells u at sp rows before after (Err fault.NoSpan) p k g short w = absurd w
-written_tells u at sp rows before after (Err (fault.Shelf role)) p k g short w = absurd w
-written_tells u at sp rows before after (Err (fault.TooLong role)) p k g short w = absurd w
-written_tells u at sp rows before after (Err (fault.Words line kind)) p k g short w = absurd w
-written_tells u at sp rows before after (Err (fault.Source line kind)) p k g short w = absurd w
-written_tells u at sp rows before after (Err (fault.Config key kind)) p k g short w = absurd w
-written_tells u at sp rows before after (Err (fault.Second key kind)) p k g short w = absurd w
-written_tells u at sp rows before after (Err (fault.Stim line kind)) p k g short w = absurd w
-written_tells u at sp rows before after (Err (fault.Table line kind)) p k g short w = absurd w
-written_tells u at sp rows before after (Err (fault.Unproved place n refusal)) p k g short w = absurd w
-written_tells u at sp rows before after (Err (fault.Flaw place n flaw)) p k g short w = absurd w
+written_tells u at sp rows before after (Err e) p k g short w = absurd w
 
 -- the line of a table that proves the span was written, or why not
 pub rechecked_tells : (u : Setup) (at : ℕ) (sp : Span) (rows : List Row) (before after : Output) (r : Result (Unit {0}) Fault) → IsProvedBy u sp rows → HoldsInEveryRun u sp
@@ -64,29 +55,7 @@ pub rechecked_tells : (u : Setup) (at : ℕ) (sp : Span) (rows : List Row) (befo
 rechecked_tells u at sp rows before after (Ok done) p k w = (p, (k, w))
 rechecked_tells u at sp rows before after (Err fault.Out) p k w = (p, w)
 rechecked_tells u at sp rows before after (Err fault.Memory) p k w = w
-rechecked_tells u at sp rows before after (Err fault.Usage) p k w = absurd w
-rechecked_tells u at sp rows before after (Err (fault.SecondUnproved place n refusal)) p k w = absurd w
-rechecked_tells u at sp rows before after (Err fault.NoSpan) p k w = absurd w
-rechecked_tells u at sp rows before after (Err (fault.Shelf role)) p k w = absurd w
-rechecked_tells u at sp rows before after (Err (fault.TooLong role)) p k w = absurd w
-rechecked_tells u at sp rows before after (Err (fault.Words line kind)) p k w = absurd w
-rechecked_tells u at sp rows before after (Err (fault.Source line kind)) p k w = absurd w
-rechecked_tells u at sp rows before after (Err (fault.Config key kind)) p k w = absurd w
-rechecked_tells u at sp rows before after (Err (fault.Second key kind)) p k w = absurd w
-rechecked_tells u at sp rows before after (Err (fault.Stim line kind)) p k w = absurd w
-rechecked_tells u at sp rows before after (Err (fault.Table line kind)) p k w = absurd w
-rechecked_tells u at sp rows before after (Err (fault.Unproved place n refusal)) p k w = absurd w
-rechecked_tells u at sp rows before after (Err (fault.Flaw place n flaw)) p k w = absurd w
-
--- what a verdict finds
-pub finds : (u : Setup) (sp : Span) (found : Verdict) → IsVerdict u sp found → VerdictHolds u sp found → IsTableVerdict u sp (table_or found)
-finds u sp (verdict.Proved table opens closes) v k = (record { provable = v.1.provable; alone = v.1.alone }, (k, v.1.table))
-finds u sp (verdict.Unproved at cause) v k = v
-finds u sp (verdict.Shared m) v k = v
-
--- a verdict that was found by an equation
-pub finds_by : (u : Setup) (sp : Span) (found : Verdict) (r : Result FollowedRows Refusal) → r ≡ table_or found → IsVerdict u sp found → VerdictHolds u sp found → IsTableVerdict u sp r
-finds_by u sp found r is v k = subst (λ (x : Result FollowedRows Refusal). IsTableVerdict u sp x) (sym is) (finds u sp found v k)
+rechecked_tells u at sp rows before after (Err e) p k w = absurd w
 
 -- the text of the table of a provable span was told, or why not
 text_tells : (u : Setup) (at : ℕ) (sp : Span) (rows : List Row) (before after : Output) (r : Result (Unit {0}) Fault) → IsProvableAlone u sp → HoldsInEveryRun u sp → IsGoodLeast u sp rows
@@ -95,14 +64,19 @@ text_tells u at sp rows before after r p k g (inl w) = written_tells u at sp row
 text_tells u at sp rows before after r p k g (inr long) =
     subst (λ (x : Result (Unit {0}) Fault). TellsTable u at sp before after x) (sym long.1.0) ((p, (rows, g, long.0)), long.1.1)
 
--- the table that was found is told
-pub proved_tells_at : (u : Setup) (at : ℕ) (sp : Span) (found : Result FollowedRows Refusal) (table : FollowedRows) (before after : Output) (r : Result (Unit {0}) Fault) → found ≡ Ok table → IsTableVerdict u sp found
-    → TellsText before after (table_text table.rows) r → TellsTable u at sp before after r
-proved_tells_at u at sp found table before after r is h w =
-    let v = subst (λ (x : Result FollowedRows Refusal). IsTableVerdict u sp x) is h in
-    text_tells u at sp table.rows before after r v.0 v.1.0 v.1.1 w
+-- the verdict on a span is told: its table, why it isn't provable, or another machine that may write a pin of it
+pub proved_tells : (u : Setup) (at : ℕ) (sp : Span) (found : Verdict) (table : FollowedRows) (opens closes : Bool) (before after : Output) (r : Result (Unit {0}) Fault)
+    → found ≡ verdict.Proved table opens closes → IsVerdict u sp found → VerdictHolds u sp found → TellsText before after (table_text table.rows) r
+    → TellsTable u at sp before after r
+proved_tells u at sp found table opens closes before after r is v k w =
+    let proved = subst (IsVerdict u sp) is v in
+    text_tells u at sp table.rows before after r (record { provable = proved.1.provable; alone = proved.1.alone })
+    (subst (VerdictHolds u sp) is k) proved.1.table w
 
-pub refused_tells_at : (u : Setup) (at : ℕ) (sp : Span) (found : Result FollowedRows Refusal) (refusal : Refusal) (out : Output) (e : Fault) → found ≡ Err refusal → IsTableVerdict u sp found → IsRefusalOf at sp refusal e
-    → TellsTable u at sp out out (Err e)
-refused_tells_at u at sp found refusal out e is h i =
-    refused_tells u at sp out refusal e (subst (λ (x : Result FollowedRows Refusal). IsTableVerdict u sp x) is h) i
+pub unproved_tells : (u : Setup) (at : ℕ) (sp : Span) (found : Verdict) (k : Context) (cause : Cause) (out : Output) (e : Fault)
+    → found ≡ verdict.Unproved k cause → IsVerdict u sp found → IsRefusalOf at sp (Unproved k cause) e → TellsTable u at sp out out (Err e)
+unproved_tells u at sp found k cause out e is v i = refused_tells u at sp out (Unproved k cause) e (subst (IsVerdict u sp) is v) i
+
+pub sharer_tells : (u : Setup) (at : ℕ) (sp : Span) (found : Verdict) (m : ℕ) (out : Output) (e : Fault)
+    → found ≡ verdict.Shared m → IsVerdict u sp found → IsRefusalOf at sp (Shared m) e → TellsTable u at sp out out (Err e)
+sharer_tells u at sp found m out e is v i = refused_tells u at sp out (Shared m) e (subst (IsVerdict u sp) is v) i

@@ -1,5 +1,5 @@
 -- Verdicts whose lines failed.
-use Rattle.std.proofs.Common.{◌≡◌, Bool, List, Result, Err, subst}
+use Rattle.std.proofs.Common.{◌≡◌, List, Result, Err, subst}
 use Rattle.pin_matrix.specs.declared.setup.Setup.{Setup}
 use Rattle.pin_matrix.specs.declared.span.Span.{Span}
 use Rattle.fault_lines.specs.Output.{Output}
@@ -14,19 +14,7 @@ use Rattle.commands.specs.Verdicts.{TellsVerdicts}
 pub tells_fails : (u : Setup) (found : List (Result Finding Refusal)) (before after : Output) (e : Fault) → AreVerdicts u u.spans found → Writes before after (verdict_text u.spans found) (Err e) → TellsVerdicts u before after (Err e)
 tells_fails u found before after fault.Out v h = (found, v, h)
 tells_fails u found before after fault.Memory v h = h
-tells_fails u found before after fault.Usage v h = absurd h
-tells_fails u found before after (fault.SecondUnproved place name refusal) v h = absurd h
-tells_fails u found before after (fault.Shelf role) v h = absurd h
-tells_fails u found before after (fault.TooLong role) v h = absurd h
-tells_fails u found before after (fault.Words line kind) v h = absurd h
-tells_fails u found before after (fault.Source line kind) v h = absurd h
-tells_fails u found before after (fault.Config key kind) v h = absurd h
-tells_fails u found before after (fault.Second key kind) v h = absurd h
-tells_fails u found before after (fault.Stim line kind) v h = absurd h
-tells_fails u found before after fault.NoSpan v h = absurd h
-tells_fails u found before after (fault.Table line kind) v h = absurd h
-tells_fails u found before after (fault.Unproved place name refusal) v h = absurd h
-tells_fails u found before after (fault.Flaw place name flaw) v h = absurd h
+tells_fails u found before after e v h = absurd h
 
 -- the same where spans and verdicts are seen by equations
 pub tells_failing : (u : Setup) (spans : List Span) (seen found : List (Result Finding Refusal)) (before after : Output) (e : Fault) → spans ≡ u.spans → seen ≡ found → AreVerdicts u u.spans found → Writes before after (verdict_text spans seen) (Err e) → TellsVerdicts u before after (Err e)

@@ -69,3 +69,7 @@ work_ends words a c (Err e) asks range h = subst (λ (asked : Option Asked). End
 -- words that are refused end with usage, and nothing is done
 pub usage_ends : (words : List Text) (c : Call) → WordsAreRefused words → Untouched c → EndsAs words c (Some Usage)
 usage_ends words c refused same = subst (λ (asked : Option Asked). Ends asked c (Some Usage)) (sym (refused_wants_nothing words refused)) same
+
+-- a command doesn't end with usage
+pub never_usage : (a : Asked) (c : Call) (r : Result (Unit {0}) Fault) → CommandEnds a c r → r ≢ Err Usage
+never_usage a c r h is = subst (λ (x : Result (Unit {0}) Fault). CommandEnds a c x) is h

@@ -18,8 +18,8 @@ use Rattle.span_verdict.specs.declared.table_flaw.Flaw.{Flaw}
 use Rattle.stages.specs.Judged.{Judged, right, wrong}
 use Rattle.stages.specs.Stages.{HasSuch}
 use Rattle.stages.specs.Spans.{IsProvableAlone, AreProvable, IsRefused, IsFirstRefused}
-use Rattle.commands.specs.Needs.{Need, IsNamedAt, IsProvedBy, nothing, all_spans, both_spans, one_span, by_table}
-use Rattle.commands.specs.Tasks.{Task, need_of, judge, HasText, HasLongText}
+use Rattle.commands.specs.Needs.{IsNamedAt, IsProvedBy}
+use Rattle.commands.specs.Tasks.{Task, listing, trace, twin_trace, verdicts, tabled, rechecked, judge, HasText, HasLongText}
 use Rattle.commands.specs.Outside.{Call}
 use Rattle.commands.specs.Wanted.{wanted}
 
@@ -102,16 +102,17 @@ pub record EndsByTable (c : Call) (task : Task) (found : Option Fault) (u : Setu
   pub unproved : IsUnshared u sp → (IsClosed u sp rows → IsGood u sp rows → ⊥) → IsFlawTold found u sp rows
 
 -- what the task needs of spans decides, and where it needs nothing all is done
-abbrev pub EndsByTask : Call → Task → Option Fault → Need → Type 0
-EndsByTask c task found nothing = IsDone c task found
-EndsByTask c task found (all_spans u) = EndsBySpans c task found u
-EndsByTask c task found (both_spans s t) = EndsByBoth c task found s t
-EndsByTask c task found (one_span u sp) = EndsBySpan c task found u sp
-EndsByTask c task found (by_table u sp rows) = EndsByTable c task found u sp rows
+abbrev pub EndsByTask : Call → Task → Option Fault → Type 0
+EndsByTask c (listing text) found = IsDone c (listing text) found
+EndsByTask c (trace u text) found = EndsBySpans c (trace u text) found u
+EndsByTask c (twin_trace s t text) found = EndsByBoth c (twin_trace s t text) found s t
+EndsByTask c (verdicts u) found = EndsBySpans c (verdicts u) found u
+EndsByTask c (tabled u sp) found = EndsBySpan c (tabled u sp) found u sp
+EndsByTask c (rechecked u sp rows) found = EndsByTable c (rechecked u sp rows) found u sp rows
 
 -- the task decides where the files come to one, else exactly their fault ends the call
 abbrev pub EndsByFiles : Call → Judged Task → Option Fault → Type 0
-EndsByFiles c (right task) found = EndsByTask c task found (need_of task)
+EndsByFiles c (right task) found = EndsByTask c task found
 EndsByFiles c (wrong e) found = found ≡ Some e
 
 -- the words of a quiet call ask for something, and the files decide its end

@@ -1,11 +1,12 @@
 pub mod Wanted
 pub mod Outside
-pub mod Needs
 pub mod Tasks
+pub mod Needs
 pub mod Promise
 pub mod Ends
 pub mod Complete
 pub mod Worked
+pub mod Obeys
 pub mod Steps
 pub mod Written
 pub mod Passed

@@ -1,7 +1,9 @@
 -- The outside before and after a call: the files, what the output has taken, and the faults.
-use Rattle.std.specs.Prelude.{◌≡◌, ℕ, Option, List}
+use Rattle.std.specs.Prelude.{◌≡◌, Option}
 use Rattle.pio_edge.specs.Count.{Faults}
 use Rattle.pio_edge.specs.Edge.{Files}
+use Rattle.pio_edge.specs.declared.shelf.Shelf.{Ghosts as ShelfSeen}
+use Rattle.pio_edge.specs.declared.sink.Sink.{Ghosts as SinkSeen}
 use Rattle.fault_lines.specs.Output.{Output, output_of}
 
 -- the files where they are known, the shelf's faults and the output, before and after a call
@@ -22,16 +24,14 @@ call_of files shelf_before shelf_after out_before out_after = record {
   out_after = out_after;
 }
 
--- an output, by the three ways in which its sink is seen: what it has taken, what still waits, its faults
-abbrev pub output_by : {S : Type 0} → (S → Option (List ℕ)) → (S → List ℕ) → (S → ℕ) → S → Output
-output_by taken waiting faults sink = output_of (taken sink) (waiting sink) (faults sink)
+-- an output, as its sink is seen: what it has taken, what still waits, its faults
+abbrev pub output_by : {O : Type 0} → SinkSeen O → O → Output
+output_by seen out = output_of (seen.taken out) (seen.waiting out) (seen.faults out)
 
--- a call, by the ways in which its shelf and its sink are seen, and both of them before and after it
-abbrev pub call_by : {H S : Type 0} → (H → Option Files) → (H → Faults) → (S → Option (List ℕ)) → (S → List ℕ) → (S → ℕ)
-    → (shelf_before shelf_after : H) → (out_before out_after : S) → Call
-call_by holds failed taken waiting faults shelf_before shelf_after out_before out_after =
-    call_of (holds shelf_before) (failed shelf_before) (failed shelf_after) (output_by taken waiting faults out_before)
-    (output_by taken waiting faults out_after)
+-- a call, as its shelf and its sink are seen, and both of them before and after it
+abbrev pub call_by : {F O : Type 0} → ShelfSeen F → SinkSeen O → (shelf_before shelf_after : F) → (out_before out_after : O) → Call
+call_by shelf out shelf_before shelf_after out_before out_after =
+    call_of (shelf.holds shelf_before) (shelf.faults shelf_before) (shelf.faults shelf_after) (output_by out out_before) (output_by out out_after)
 
 -- the shelf had no fault
 abbrev pub SameShelf : Call → Type 0

@@ -1,10 +1,9 @@
--- What a call has done that ended with status 0: a record for each command, over known files. Each is a law from `EndsAs`.
---   Passed          the words want this command, its files are known, and the call ended without a fault
+-- What a call has done that ended with status 0: a record for each command, over known files. Each is a law from `Passes`.
+--   Passed          the files are known, and the command kept its promise, without a fault
 --   AsmPassed ..    what the command then read, wrote, and what holds of it
 use Rattle.std.specs.Prelude.{◌≡◌, ℕ, ◌≤◌, Bool, Option, Some, None, is_some, List, length, map, Result}
 use Rattle.std.specs.FinMap.{get}
 use Rattle.std.specs.List.{flat_map}
-use Rattle.clap.specs.Walk.{Text}
 use Rattle.pio_edge.specs.Edge.{Files}
 use Rattle.pio_assemble.specs.Program.{Assembled}
 use Rattle.program_listing.specs.Listing.{listing_text}
@@ -42,15 +41,13 @@ use Rattle.stages.specs.Spans.{IsProvableAlone, AreProvable, AllHold, AreVerdict
 use Rattle.commands.specs.Outside.{Call, SameShelf}
 use Rattle.commands.specs.Needs.{IsProvedBy}
 use Rattle.commands.specs.Tasks.{seen_in, twin_start}
-use Rattle.commands.specs.Wanted.{wanted}
-use Rattle.commands.specs.Ends.{EndsAs}
+use Rattle.commands.specs.Promise.{Passes}
 use Rattle.commands.specs.Written.{HasTaken}
 
--- the words want this command, its files are known, and the call ended without a fault
-pub record Passed (words : List Text) (c : Call) (files : Files) (a : Asked) : Type 0 where
-  pub asked : wanted words ≡ Some a
-  pub told : c.files ≡ Some files
-  pub ends : EndsAs words c None
+-- the files are known, and the command kept its promise, without a fault
+pub record Passed (c : Call) (files : Files) (a : Asked) : Type 0 where
+  pub known : c.files ≡ Some files
+  pub passes : Passes c a
 
 -- the output took exactly this text and handed it on; no fetch and no output failed
 pub record Writing (c : Call) (text : List ℕ) : Type 0 where

@@ -14,8 +14,8 @@ use Rattle.stages.specs.Judged.{wrong}
 use Rattle.stages.specs.Stages.{HasSuch}
 use Rattle.stages.specs.Fetching.{Slot, fetches_of, run_slots, AsksUntil}
 use Rattle.commands.specs.Outside.{Call, Untouched, SameShelf, SameOut}
-use Rattle.commands.specs.Needs.{IsMet, AllRunsHold, IsRefusedBy, IsSecondRefusedBy, IsFlawed}
-use Rattle.commands.specs.Tasks.{judge, ComesTo, HasText, HasLongText, need_of, AskedBefore, slots_of, file_in, reaches}
+use Rattle.commands.specs.Needs.{IsMet, AskedBefore, AllRunsHold, IsRefusedBy, IsSecondRefusedBy, IsFlawed}
+use Rattle.commands.specs.Tasks.{judge, ComesTo, HasText, HasLongText, slots_of, file_in, reaches}
 
 -- the output took exactly the text, and handed all of it on
 pub record WritesText (c : Call) (a : Asked) : Type 0 where
@@ -27,8 +27,8 @@ pub record WritesText (c : Call) (a : Asked) : Type 0 where
 -- failed
 pub record Passes (c : Call) (a : Asked) : Type 0 where
   pub writes : WritesText c a
-  pub spans : ComesTo c a (λ task. IsMet (need_of task))
-  pub holds : ComesTo c a (λ task. AllRunsHold (need_of task))
+  pub spans : ComesTo c a IsMet
+  pub holds : ComesTo c a AllRunsHold
   pub shelf : SameShelf c
 
 -- what is written where a span isn't provable: the whole text by `check`, and nothing by the other commands that ask spans; the rest
@@ -43,18 +43,18 @@ WritesRefused a c = ⊥
 
 -- this is the first span that isn't provable, by its place and name, and why; nothing failed
 pub record RefusesSpan (c : Call) (a : Asked) (place : ℕ) (name : List ℕ) (refusal : Refusal) : Type 0 where
-  pub first : ComesTo c a (λ task. IsRefusedBy (need_of task) place name refusal)
+  pub first : ComesTo c a (λ task. IsRefusedBy task place name refusal)
   pub out : WritesRefused a c
   pub shelf : SameShelf c
 
 -- this is the first span of the second block that isn't provable, and why; nothing was written, and nothing failed
 pub record RefusesSecond (c : Call) (a : Asked) (place : ℕ) (name : List ℕ) (refusal : Refusal) : Type 0 where
-  pub first : ComesTo c a (λ task. IsSecondRefusedBy (need_of task) place name refusal)
+  pub first : ComesTo c a (λ task. IsSecondRefusedBy task place name refusal)
   pub untouched : Untouched c
 
 -- this is wrong first with the table, and nothing was written
 pub record Flawed (c : Call) (a : Asked) (place : ℕ) (name : List ℕ) (flaw : Flaw) : Type 0 where
-  pub first : ComesTo c a (λ task. IsFlawed (need_of task) place name flaw)
+  pub first : ComesTo c a (λ task. IsFlawed task place name flaw)
   pub untouched : Untouched c
 
 -- one fetch failed, and it was that of the command's file of this role, to which it comes
@@ -78,7 +78,7 @@ pub record Faulty (c : Call) (a : Asked) (e : Fault) : Type 0 where
 -- the text is longer than a file of its kind may be; each span that is asked is provable, nothing was written, and nothing failed
 pub record LongText (c : Call) (a : Asked) : Type 0 where
   pub text : ComesTo c a HasLongText
-  pub spans : ComesTo c a (λ task. IsMet (need_of task))
+  pub spans : ComesTo c a IsMet
   pub untouched : Untouched c
 
 -- A file is too long: one that the command reads, or the table that `table` would write, for it reads none.

@@ -7,12 +7,7 @@ use Rattle.pin_matrix.specs.declared.span.Span.{Span}
 use Rattle.span_bounds.specs.declared.row.Row.{Row}
 use Rattle.span_check.specs.Proved.{HoldsInEveryRun}
 use Rattle.span_verdict.specs.declared.table_flaw.Flaw.{Flaw}
-use Rattle.span_bounds.specs.Answers.{IsGoodLeast}
-use Rattle.span_bounds.specs.Tables.{FollowedRows}
-use Rattle.span_verdict.specs.declared.verdict.Verdict.{Verdict}
-use Rattle.span_verdict.specs.declared.verdict.Verdict.TheVariants as verdict
 use Rattle.span_texts.specs.declared.refusal.Refusal.{Refusal}
-use Rattle.span_texts.specs.declared.refusal.Refusal.TheVariants as refusal
 use Rattle.fault_lines.specs.declared.fault.Fault.{Fault}
 use Rattle.fault_lines.specs.declared.fault.Fault.TheVariants as fault
 use Rattle.fault_lines.specs.Output.{Output}
@@ -23,17 +18,6 @@ use Rattle.stages.specs.Spans.{IsProvableAlone, IsRefused}
 use Rattle.commands.specs.Needs.{HasFlaw, IsProvedBy, IsSharedBy}
 use Rattle.commands.specs.Tasks.{HasShortTable, HasLongTable}
 use Rattle.commands.specs.Written.{HasTaken, TakesPart, Writes}
-
--- the table of a proved span, or why it isn't proved
-abbrev pub table_or : Verdict → Result FollowedRows Refusal
-table_or (verdict.Proved table opens closes) = Ok table
-table_or (verdict.Unproved k cause) = Err (refusal.Unproved k cause)
-table_or (verdict.Shared m) = Err (refusal.Shared m)
-
--- the span is provable and holds in every run, and these are the rows of its least closed table; or this is why it isn't
-abbrev pub IsTableVerdict : Setup → Span → Result FollowedRows Refusal → Type 0
-IsTableVerdict u sp (Ok table) = IsProvableAlone u sp × (HoldsInEveryRun u sp × IsGoodLeast u sp table.rows)
-IsTableVerdict u sp (Err why) = IsRefused u sp why
 
 -- the fault is that of the span at this place, which is refused, or out of memory
 abbrev pub IsRefusalOf : (place : ℕ) → Span → Refusal → Fault → Type 0

@@ -4,7 +4,7 @@
 --   pair_worked   of two blocks whose files come to this
 --   worked_of     of a run, whether the files are known or not
 --   most_worked   of a command, whether the files are known or not
-use Rattle.std.specs.Prelude.{ℕ, ◌+◌, Option, Some, None, List}
+use Rattle.std.specs.Prelude.{ℕ, Option, Some, None, List}
 use Rattle.std.specs.FinMap.{get}
 use Rattle.pio_edge.specs.Edge.{Files}
 use Rattle.dreq_pacing.specs.declared.line.Line.{Line}

@@ -1,8 +1,9 @@
 -- What the stages that write promise.
 --   Writes      the output took the text and handed it on, or the stage ended with its cause
 --   SinkWrites  the same of a sink, before and after
-use Rattle.std.specs.Prelude.{◌≡◌, ℕ, Option, List, [], Result, Ok, Err}
+use Rattle.std.specs.Prelude.{◌≡◌, ℕ, List, [], Result, Ok, Err}
 use Rattle.pio_edge.specs.Edge.{Rose, with_bytes, TakesPrefix}
+use Rattle.pio_edge.specs.declared.sink.Sink.{Ghosts as SinkSeen}
 use Rattle.fault_lines.specs.declared.fault.Fault.{Fault}
 use Rattle.fault_lines.specs.declared.fault.Fault.TheVariants as fault
 use Rattle.fault_lines.specs.Output.{Output}
@@ -26,7 +27,6 @@ Writes before after text (Err fault.Out) = TakesPart before text after
 Writes before after text (Err fault.Memory) = after ≡ before
 Writes before after text (Err e) = ⊥
 
--- the same of a sink, by the three ways in which it is seen
-abbrev pub SinkWrites : {S : Type 0} → (S → Option (List ℕ)) → (S → List ℕ) → (S → ℕ) → (before after : S) → List ℕ → Result (Unit {0}) Fault → Type 0
-SinkWrites taken waiting faults before after text result =
-    Writes (output_by taken waiting faults before) (output_by taken waiting faults after) text result
+-- the same of a sink, as it is seen
+abbrev pub SinkWrites : {O : Type 0} → SinkSeen O → (before after : O) → List ℕ → Result (Unit {0}) Fault → Type 0
+SinkWrites seen before after text result = Writes (output_by seen before) (output_by seen after) text result

@@ -1,10 +1,9 @@
 //! The command `asm`: the words of each program of a source, with what they mean.
-ghost use Rattle.std.specs.Prelude.{◌≡◌, map};
+ghost use Rattle.std.specs.Prelude.{map};
 ghost use Rattle.pio_assemble.specs.Program.{assembled_of};
 ghost use Rattle.program_listing.specs.Listing.{listing_text};
-ghost use Rattle.command_line.specs.Words.{asm as asm_asked};
-ghost use Rattle.commands.specs.Outside.{call_by};
-ghost use Rattle.commands.specs.Promise.{CommandAsks, CommandEnds};
+ghost use Rattle.command_line.specs.declared.order.Order.TheVariants.{Asm};
+ghost use Rattle.commands.specs.Obeys.{ObeysAtRest};
 ghost use Rattle.commands.specs.Written.{SinkWrites};
 
 use crate::handing::hand_on;
@@ -17,7 +16,7 @@ use std::alloc::Global;
 
 /// Writes the listing of a source's programs. All memory is taken before the first piece is put.
 ///
-/// With status 0: `AsmPassed` (`specs/Passed.antt`).
+/// With status 0, where contracts know the files and the output: `AsmPassed` (`specs/Passed.antt`).
 #[tactic(auto, unfolding(crate::specs::Tasks::judge))]
 pub fn asm<F: Shelf, O: Sink>(
     alloc: Global,
@@ -25,10 +24,8 @@ pub fn asm<F: Shelf, O: Sink>(
     shelf: &mut F,
     out: &mut O,
 ) -> Result<(), Fault>
-    ensures ends { CommandEnds (asm_asked file.now)
-        (call_by F.holds F.faults O.taken O.waiting O.faults shelf.old shelf.new out.old out.new) result }
-    ensures asked { CommandAsks (asm_asked file.now) (F.fetched shelf.old) (F.fetched shelf.new) result }
-    ensures same { F.holds shelf.new ≡ F.holds shelf.old }
+    ensures { ObeysAtRest (Asm file.entry) F.Shelf O.Sink
+        shelf.old shelf.new out.old out.new result }
 {
     let programs = read_source(alloc, shelf, file)?;
     write_listing(out, &programs)
@@ -36,7 +33,7 @@ pub fn asm<F: Shelf, O: Sink>(
 
 /// Writes the listing of programs, and hands on what the output still keeps.
 fn write_listing<O: Sink>(out: &mut O, programs: &[Program]) -> Result<(), Fault>
-    ensures { SinkWrites O.taken O.waiting O.faults out.old out.new
+    ensures { SinkWrites O.Sink out.old out.new
         (listing_text (map assembled_of programs.now)) result }
 {
     let put = put_listing(out, programs);

@@ -1,12 +1,12 @@
 //! The command `check`: the verdict on each span that a configuration asks of the programs of a source.
-ghost use Rattle.std.specs.Prelude.{◌≡◌, [], length, option_map};
-ghost use Rattle.command_line.specs.Words.{check as check_asked};
+ghost use Rattle.std.specs.Prelude.{◌≡◌, [], length};
+ghost use Rattle.command_line.specs.declared.order.Order.TheVariants.{Check};
 ghost use Rattle.pio_edge.specs.Edge.{PutCounts, Takes};
 ghost use Rattle.span_texts.specs.VerdictLines.{verdict_line};
 ghost use Rattle.stages.specs.Configured.{AreConfigured};
 ghost use Rattle.stages.specs.Spans.{AreJudged, verdict_text};
-ghost use Rattle.commands.specs.Outside.{call_by, output_by};
-ghost use Rattle.commands.specs.Promise.{CommandAsks, CommandEnds};
+ghost use Rattle.commands.specs.Outside.{output_by};
+ghost use Rattle.commands.specs.Obeys.{ObeysAtRest};
 ghost use Rattle.commands.specs.Written.{SinkWrites};
 ghost use Rattle.commands.specs.Verdicts.{TellsVerdicts};
 
@@ -21,7 +21,7 @@ use std::alloc::Global;
 /// Writes the line of the verdict on each span of a setup, and then ends with the fault of the first one that isn't
 /// provable, if there is one. All memory is taken before the first piece is put.
 ///
-/// With status 0: `CheckPassed` (`specs/Passed.antt`).
+/// With status 0, where contracts know the files and the output: `CheckPassed` (`specs/Passed.antt`).
 #[tactic(auto, unfolding(crate::specs::Tasks::judge))]
 pub fn check<F: Shelf, O: Sink>(
     alloc: Global,
@@ -30,11 +30,8 @@ pub fn check<F: Shelf, O: Sink>(
     shelf: &mut F,
     out: &mut O,
 ) -> Result<(), Fault>
-    ensures ends { CommandEnds (check_asked source.now (option_map (λ t. t.now) config.entry))
-        (call_by F.holds F.faults O.taken O.waiting O.faults shelf.old shelf.new out.old out.new) result }
-    ensures asked { CommandAsks (check_asked source.now (option_map (λ t. t.now) config.entry))
-        (F.fetched shelf.old) (F.fetched shelf.new) result }
-    ensures same { F.holds shelf.new ≡ F.holds shelf.old }
+    ensures { ObeysAtRest (Check source.entry config.entry) F.Shelf O.Sink
+        shelf.old shelf.new out.old out.new result }
 {
     let setup = prepare_setup(alloc, shelf, source, config)?;
     let verdicts = judge_spans(alloc, &setup)?;
@@ -46,7 +43,7 @@ fn tell_verdicts<O: Sink>(out: &mut O, setup: &Setup, verdicts: Verdicts) -> Res
     requires configured { AreConfigured setup.now }
     requires judged { AreJudged setup.now setup.now.spans verdicts.found.items verdicts.refused }
     ensures { TellsVerdicts setup.now
-        (output_by O.taken O.waiting O.faults out.old) (output_by O.taken O.waiting O.faults out.new) result }
+        (output_by O.Sink out.old) (output_by O.Sink out.new) result }
 {
     write_verdicts(out, setup.spans.as_slice(), &verdicts.found)?;
     refuse(setup, verdicts.refused)
@@ -59,8 +56,7 @@ fn write_verdicts<O: Sink>(
     found: &[Result<Finding, Refusal>],
 ) -> Result<(), Fault>
     requires { length found.now ≡ length spans.now }
-    ensures { SinkWrites O.taken O.waiting O.faults out.old out.new
-        (verdict_text spans.now found.now) result }
+    ensures { SinkWrites O.Sink out.old out.new (verdict_text spans.now found.now) result }
 {
     let put = put_verdicts(out, spans, found);
     hand_on(out, put)

@@ -1,9 +1,8 @@
 //! The command `dis`: the text of each word of a file.
-ghost use Rattle.std.specs.Prelude.{◌≡◌, ◌+◌, ◌≤◌, if◌then◌else◌, length};
-ghost use Rattle.command_line.specs.Words.{dis as dis_asked};
+ghost use Rattle.std.specs.Prelude.{◌+◌, ◌≤◌, if◌then◌else◌, length};
+ghost use Rattle.command_line.specs.declared.order.Order.TheVariants.{Dis};
 ghost use Rattle.word_file.specs.Listing.{word_lines};
-ghost use Rattle.commands.specs.Outside.{call_by};
-ghost use Rattle.commands.specs.Promise.{CommandAsks, CommandEnds};
+ghost use Rattle.commands.specs.Obeys.{ObeysAtRest};
 ghost use Rattle.commands.specs.Written.{SinkWrites};
 
 use crate::handing::hand_on;
@@ -17,7 +16,7 @@ use word_file::{make_rule, put_words};
 /// Writes the lines of a file's words, read under a rule of so many side-set bits. All memory is taken before the
 /// first piece is put.
 ///
-/// With status 0: `DisPassed` (`specs/Passed.antt`).
+/// With status 0, where contracts know the files and the output: `DisPassed` (`specs/Passed.antt`).
 #[tactic(auto, unfolding(crate::specs::Tasks::judge))]
 pub fn dis<F: Shelf, O: Sink>(
     alloc: Global,
@@ -28,10 +27,8 @@ pub fn dis<F: Shelf, O: Sink>(
     out: &mut O,
 ) -> Result<(), Fault>
     requires { side + (if opt then 1 else 0) ≤ 5 }
-    ensures ends { CommandEnds (dis_asked file.now side opt)
-        (call_by F.holds F.faults O.taken O.waiting O.faults shelf.old shelf.new out.old out.new) result }
-    ensures asked { CommandAsks (dis_asked file.now side opt) (F.fetched shelf.old) (F.fetched shelf.new) result }
-    ensures same { F.holds shelf.new ≡ F.holds shelf.old }
+    ensures { ObeysAtRest (Dis file.entry side opt) F.Shelf O.Sink
+        shelf.old shelf.new out.old out.new result }
 {
     let words = fetch_words(alloc, shelf, file)?;
     write_words(out, &words, &make_rule(side, opt))
@@ -40,8 +37,7 @@ pub fn dis<F: Shelf, O: Sink>(
 /// Writes the lines of words, and hands on what the output still keeps.
 fn write_words<O: Sink>(out: &mut O, words: &[u16], rule: &SideRule) -> Result<(), Fault>
     requires { length words.now ≤ 32 }
-    ensures { SinkWrites O.taken O.waiting O.faults out.old out.new
-        (word_lines rule.now words.now) result }
+    ensures { SinkWrites O.Sink out.old out.new (word_lines rule.now words.now) result }
 {
     let put = put_words(out, words, rule);
     hand_on(out, put)

@@ -1,9 +1,7 @@
 //! The command `gen`: what the load that a seed draws comes to in so many clocks.
-ghost use Rattle.std.specs.Prelude.{◌≡◌, ◌+◌, ◌≤◌, ◌^◌};
-ghost use Rattle.command_line.specs.Words.{gen as gen_asked};
-ghost use Rattle.commands.specs.Outside.{call_by};
-ghost use Rattle.commands.specs.Promise.{CommandAsks, CommandEnds};
-ghost use Rattle.commands.specs.Worked.{most_worked};
+ghost use Rattle.std.specs.Prelude.{◌≤◌, ◌^◌};
+ghost use Rattle.command_line.specs.declared.order.Order.TheVariants.{Gen};
+ghost use Rattle.commands.specs.Obeys.{Obeys};
 ghost use Rattle.commands.specs.Written.{SinkWrites};
 ghost use Rattle.drawn_load.specs.Summaries.{summary_text};
 
@@ -18,7 +16,7 @@ use step_count::Steps;
 /// Writes the summary of the load of a seed, whatever the seed is, over so many clocks, up to 10^12. It fetches
 /// nothing. All memory is taken before the first piece is put.
 ///
-/// With status 0: `GenPassed` (`specs/Passed.antt`).
+/// With status 0, where contracts know the files and the output: `GenPassed` (`specs/Passed.antt`).
 #[tactic(auto, unfolding(crate::specs::Tasks::judge))]
 pub fn generate<F: Shelf, O: Sink, L: Ledger>(
     alloc: Global,
@@ -29,11 +27,8 @@ pub fn generate<F: Shelf, O: Sink, L: Ledger>(
     steps: &mut Steps<L>,
 ) -> Result<(), Fault>
     requires { clocks ≤ 10 ^ 12 }
-    ensures ends { CommandEnds (gen_asked seed clocks)
-        (call_by F.holds F.faults O.taken O.waiting O.faults shelf.old shelf.new out.old out.new) result }
-    ensures asked { CommandAsks (gen_asked seed clocks) (F.fetched shelf.old) (F.fetched shelf.new) result }
-    ensures same { shelf.new ≡ shelf.old }
-    ensures worked { steps.new ≤ steps.old + most_worked (F.holds shelf.old) (gen_asked seed clocks) }
+    ensures { Obeys (Gen seed clocks) F.Shelf O.Sink shelf.old shelf.new out.old out.new
+        steps.old steps.new result }
 {
     let summary = summarise(alloc, seed, clocks, steps)?;
     write_summary(out, &summary)
@@ -41,8 +36,7 @@ pub fn generate<F: Shelf, O: Sink, L: Ledger>(
 
 /// Writes the lines of a summary, and hands on what the output still keeps.
 fn write_summary<O: Sink>(out: &mut O, summary: &Summary) -> Result<(), Fault>
-    ensures { SinkWrites O.taken O.waiting O.faults out.old out.new
-        (summary_text summary.now) result }
+    ensures { SinkWrites O.Sink out.old out.new (summary_text summary.now) result }
 {
     let put = put_summary(out, summary);
     hand_on(out, put)

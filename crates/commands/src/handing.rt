@@ -13,7 +13,7 @@ use pio_edge::{Sink, SinkFailed};
 pub fn hand_on<O: Sink, E: Drop>(out: &mut O, put: Result<(), E>) -> Result<(), Fault>
     ensures { (before : Output) (text : List ℕ) → Takes before.taken text (O.taken out.old) put
         → PutCounts before.faults (O.faults out.old) put
-        → Writes before (output_by O.taken O.waiting O.faults out.new) text result }
+        → Writes before (output_by O.Sink out.new) text result }
 {
     match put {
         Ok(()) => finish(out),
@@ -24,7 +24,7 @@ pub fn hand_on<O: Sink, E: Drop>(out: &mut O, put: Result<(), E>) -> Result<(), 
 /// Hands on what the output still keeps of a text that it has taken.
 fn finish<O: Sink>(out: &mut O) -> Result<(), Fault>
     ensures { (before : Output) (text : List ℕ) → O.taken out.old ≡ with_bytes before.taken text
-        → O.faults out.old ≡ before.faults → Writes before (output_by O.taken O.waiting O.faults out.new) text result }
+        → O.faults out.old ≡ before.faults → Writes before (output_by O.Sink out.new) text result }
 {
     match out.finish() {
         Ok(()) => Ok(()),

@@ -1,12 +1,10 @@
 //! The command `inspect`: the trace of what is inside a block in the first clocks of a run, with the pads and the
 //! registers of each machine.
-ghost use Rattle.std.specs.Prelude.{◌≡◌, ◌+◌, ◌≤◌, ◌^◌, is_some, map, option_map};
+ghost use Rattle.std.specs.Prelude.{◌≡◌, ◌+◌, ◌≤◌, ◌^◌, is_some, map};
 ghost use Rattle.block_core.specs.Block.{first_run};
-ghost use Rattle.command_line.specs.Words.{inspect as inspect_asked};
+ghost use Rattle.command_line.specs.declared.order.Order.TheVariants.{Inspect};
 ghost use Rattle.commands.specs.Tasks.{inspected_text};
-ghost use Rattle.commands.specs.Outside.{call_by};
-ghost use Rattle.commands.specs.Promise.{CommandAsks, CommandEnds};
-ghost use Rattle.commands.specs.Worked.{most_worked};
+ghost use Rattle.commands.specs.Obeys.{Obeys};
 ghost use Rattle.commands.specs.Written.{SinkWrites};
 ghost use Rattle.idle_engine.specs.Worked.{worked_in};
 
@@ -30,7 +28,7 @@ use vcd_trace::{InsideVcd, failing_early_leaves_a_first_part_of_what_is_inside};
 /// Writes the trace of what is inside the block that a source sets up, by a configuration or by default, in so many
 /// clocks, beside a stimulus where one is named. No span is asked. All memory is taken before the first piece is put.
 ///
-/// With status 0: `InspectPassed` (`specs/Passed.antt`).
+/// With status 0, where contracts know the files and the output: `InspectPassed` (`specs/Passed.antt`).
 #[tactic(auto, unfolding(crate::specs::Tasks::judge), using(crate::proofs::Working::worked_by))]
 pub fn inspect<F: Shelf, O: Sink, L: Ledger>(
     alloc: Global,
@@ -41,18 +39,8 @@ pub fn inspect<F: Shelf, O: Sink, L: Ledger>(
     steps: &mut Steps<L>,
 ) -> Result<(), Fault>
     requires { clocks ≤ 10 ^ 12 }
-    ensures ends { CommandEnds
-        (inspect_asked files.entry.source.now (option_map (λ t. t.now) files.entry.config)
-        (option_map (λ t. t.now) files.entry.stimulus) clocks)
-        (call_by F.holds F.faults O.taken O.waiting O.faults shelf.old shelf.new out.old out.new) result }
-    ensures asked { CommandAsks
-        (inspect_asked files.entry.source.now (option_map (λ t. t.now) files.entry.config)
-        (option_map (λ t. t.now) files.entry.stimulus) clocks)
-        (F.fetched shelf.old) (F.fetched shelf.new) result }
-    ensures same { F.holds shelf.new ≡ F.holds shelf.old }
-    ensures worked { steps.new ≤ steps.old + most_worked (F.holds shelf.old)
-        (inspect_asked files.entry.source.now (option_map (λ t. t.now) files.entry.config)
-        (option_map (λ t. t.now) files.entry.stimulus) clocks) }
+    ensures { Obeys (Inspect files.entry clocks) F.Shelf O.Sink shelf.old shelf.new out.old out.new
+        steps.old steps.new result }
 {
     few_clocks_are_worked_out();
     let (setup, schedule) = prepare(alloc, shelf, files)?;
@@ -69,7 +57,7 @@ fn write_inspected<O: Sink, L: Ledger>(
     steps: &mut Steps<L>,
 ) -> Result<(), Fault>
     requires { clocks ≤ 10 ^ 12 }
-    ensures ends { SinkWrites O.taken O.waiting O.faults out.old out.new
+    ensures ends { SinkWrites O.Sink out.old out.new
         (inspected_text setup.now schedule.now clocks) result }
     ensures steps { steps.new ≤ steps.old + worked_in (first_run setup.now) schedule.now clocks }
 {

@@ -1,14 +1,12 @@
 //! The command `measure`: what each span of a configuration measures in the first clocks of a run.
-ghost use Rattle.std.specs.Prelude.{◌≡◌, ◌+◌, ◌≤◌, ◌^◌, IfOk, List, [], map, option_map};
+ghost use Rattle.std.specs.Prelude.{◌≡◌, ◌+◌, ◌≤◌, ◌^◌, IfOk, List, [], map};
 ghost use Rattle.block_core.specs.Block.{first_run};
 ghost use Rattle.block_core.specs.Conduct.{conducts, no_conduct};
 ghost use Rattle.block_core.specs.Hosted.{samples};
-ghost use Rattle.command_line.specs.Words.{measure as measure_asked};
+ghost use Rattle.command_line.specs.declared.order.Order.TheVariants.{Measure};
 ghost use Rattle.commands.specs.Metered.{seen_of_each};
 ghost use Rattle.commands.specs.Tasks.{measured_text, seen_in};
-ghost use Rattle.commands.specs.Outside.{call_by};
-ghost use Rattle.commands.specs.Promise.{CommandAsks, CommandEnds};
-ghost use Rattle.commands.specs.Worked.{most_worked};
+ghost use Rattle.commands.specs.Obeys.{Obeys};
 ghost use Rattle.commands.specs.Written.{SinkWrites};
 ghost use Rattle.span_meter.specs.declared.pins.ShownPins.{ShownPins};
 ghost use Rattle.span_meter.specs.Measured.{SpanEdges, ends_in};
@@ -40,7 +38,7 @@ use step_count::Steps;
 /// in so many clocks, with a stimulus where one is named. It doesn't ask whether a span is provable. All memory is
 /// taken before the first piece is put.
 ///
-/// With status 0: `MeasurePassed` (`specs/Passed.antt`).
+/// With status 0, where contracts know the files and the output: `MeasurePassed` (`specs/Passed.antt`).
 #[tactic(auto, unfolding(crate::specs::Tasks::judge), using(crate::proofs::Working::worked_by))]
 pub fn measure<F: Shelf, O: Sink, L: Ledger>(
     alloc: Global,
@@ -51,16 +49,8 @@ pub fn measure<F: Shelf, O: Sink, L: Ledger>(
     steps: &mut Steps<L>,
 ) -> Result<(), Fault>
     requires { clocks ≤ 10 ^ 12 }
-    ensures ends { CommandEnds
-        (measure_asked files.entry.source.now (option_map (λ t. t.now) files.entry.config) (option_map (λ t. t.now) files.entry.stimulus) clocks)
-        (call_by F.holds F.faults O.taken O.waiting O.faults shelf.old shelf.new out.old out.new) result }
-    ensures asked { CommandAsks
-        (measure_asked files.entry.source.now (option_map (λ t. t.now) files.entry.config)
-        (option_map (λ t. t.now) files.entry.stimulus) clocks)
-        (F.fetched shelf.old) (F.fetched shelf.new) result }
-    ensures same { F.holds shelf.new ≡ F.holds shelf.old }
-    ensures worked { steps.new ≤ steps.old + most_worked (F.holds shelf.old)
-        (measure_asked files.entry.source.now (option_map (λ t. t.now) files.entry.config) (option_map (λ t. t.now) files.entry.stimulus) clocks) }
+    ensures { Obeys (Measure files.entry clocks) F.Shelf O.Sink shelf.old shelf.new out.old out.new
+        steps.old steps.new result }
 {
     few_clocks_are_worked_out();
     let (setup, schedule) = prepare(alloc, shelf, files)?;
@@ -78,7 +68,7 @@ fn write_measured<O: Sink, L: Ledger>(
     steps: &mut Steps<L>,
 ) -> Result<(), Fault>
     requires { clocks ≤ 10 ^ 12 }
-    ensures ends { SinkWrites O.taken O.waiting O.faults out.old out.new
+    ensures ends { SinkWrites O.Sink out.old out.new
         (measured_text (first_run setup.now) setup.now.spans schedule.now clocks) result }
     ensures steps { steps.new ≤ steps.old + worked_in (first_run setup.now) schedule.now clocks }
 {

@@ -21,7 +21,7 @@ pub(crate) fn write_lines<O: Sink>(
     meter: &Metered,
 ) -> Result<(), Fault>
     requires { length (seen_of_each meter.now) ≡ length spans.now }
-    ensures { SinkWrites O.taken O.waiting O.faults out.old out.new
+    ensures { SinkWrites O.Sink out.old out.new
         (seen_lines spans.now (seen_of_each meter.now)) result }
 {
     let put = put_lines(out, spans, meter);

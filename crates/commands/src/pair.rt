@@ -1,10 +1,8 @@
 //! The command `pair`: the trace of the first clocks of two blocks on one set of pins.
-ghost use Rattle.std.specs.Prelude.{◌≡◌, ◌+◌, ◌≤◌, ◌^◌, option_map};
-ghost use Rattle.command_line.specs.Words.{pair as pair_asked};
+ghost use Rattle.std.specs.Prelude.{◌+◌, ◌≤◌, ◌^◌};
+ghost use Rattle.command_line.specs.declared.order.Order.TheVariants.{Pair};
 ghost use Rattle.commands.specs.Tasks.{twin_start, twin_trace_text};
-ghost use Rattle.commands.specs.Outside.{call_by};
-ghost use Rattle.commands.specs.Promise.{CommandAsks, CommandEnds};
-ghost use Rattle.commands.specs.Worked.{most_worked};
+ghost use Rattle.commands.specs.Obeys.{Obeys};
 ghost use Rattle.commands.specs.Written.{SinkWrites};
 ghost use Rattle.idle_engine.specs.Worked.{twin_worked_in};
 
@@ -25,7 +23,7 @@ use vcd_trace::{TwinVcd, failing_early_leaves_a_first_part_of_two};
 /// one is named. Each span of both has to be provable; the first one that isn't ends the run, and nothing is written.
 /// The first block's spans come before the second's. All memory is taken before the first piece is put.
 ///
-/// With status 0: `PairPassed` (`specs/Passed.antt`).
+/// With status 0, where contracts know the files and the output: `PairPassed` (`specs/Passed.antt`).
 #[tactic(auto, unfolding(crate::specs::Tasks::judge), using(crate::proofs::Working::worked_by_both))]
 pub fn pair<F: Shelf, O: Sink, L: Ledger>(
     alloc: Global,
@@ -36,16 +34,8 @@ pub fn pair<F: Shelf, O: Sink, L: Ledger>(
     steps: &mut Steps<L>,
 ) -> Result<(), Fault>
     requires { clocks ≤ 10 ^ 12 }
-    ensures ends { CommandEnds
-        (pair_asked files.entry.source.now files.entry.config.now files.entry.second.now (option_map (λ t. t.now) files.entry.stimulus) clocks)
-        (call_by F.holds F.faults O.taken O.waiting O.faults shelf.old shelf.new out.old out.new) result }
-    ensures asked { CommandAsks
-        (pair_asked files.entry.source.now files.entry.config.now files.entry.second.now
-        (option_map (λ t. t.now) files.entry.stimulus) clocks)
-        (F.fetched shelf.old) (F.fetched shelf.new) result }
-    ensures same { F.holds shelf.new ≡ F.holds shelf.old }
-    ensures worked { steps.new ≤ steps.old + most_worked (F.holds shelf.old)
-        (pair_asked files.entry.source.now files.entry.config.now files.entry.second.now (option_map (λ t. t.now) files.entry.stimulus) clocks) }
+    ensures { Obeys (Pair files.entry clocks) F.Shelf O.Sink shelf.old shelf.new out.old out.new
+        steps.old steps.new result }
 {
     few_clocks_are_worked_out();
     let blocks = prepare_pair(alloc, shelf, files)?;
@@ -62,7 +52,7 @@ fn write_pair<O: Sink, L: Ledger>(
     steps: &mut Steps<L>,
 ) -> Result<(), Fault>
     requires { clocks ≤ 10 ^ 12 }
-    ensures ends { SinkWrites O.taken O.waiting O.faults out.old out.new
+    ensures ends { SinkWrites O.Sink out.old out.new
         (twin_trace_text (twin_start blocks.now) blocks.now.first_lines blocks.now.second_lines clocks) result }
     ensures steps { steps.new ≤ steps.old
         + twin_worked_in (twin_start blocks.now) blocks.now.first_lines blocks.now.second_lines clocks }

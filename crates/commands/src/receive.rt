@@ -1,11 +1,9 @@
 //! The command `receive`: the bytes that one pin sends in the first clocks of a run.
-ghost use Rattle.std.specs.Prelude.{◌≡◌, ◌+◌, ◌<◌, ◌≤◌, ◌^◌, option_map};
+ghost use Rattle.std.specs.Prelude.{◌+◌, ◌<◌, ◌≤◌, ◌^◌};
 ghost use Rattle.block_core.specs.Block.{first_run};
-ghost use Rattle.command_line.specs.Words.{receive as receive_asked};
+ghost use Rattle.command_line.specs.declared.order.Order.TheVariants.{Receive};
 ghost use Rattle.commands.specs.Tasks.{received_text};
-ghost use Rattle.commands.specs.Outside.{call_by};
-ghost use Rattle.commands.specs.Promise.{CommandAsks, CommandEnds};
-ghost use Rattle.commands.specs.Worked.{most_worked};
+ghost use Rattle.commands.specs.Obeys.{Obeys};
 ghost use Rattle.commands.specs.Written.{SinkWrites};
 ghost use Rattle.idle_engine.specs.Worked.{worked_in};
 
@@ -28,7 +26,7 @@ use step_count::Steps;
 /// configuration or by default, with a stimulus where one is named. No span is asked. All memory is taken before the
 /// first piece is put.
 ///
-/// With status 0: `ReceivePassed` (`specs/Passed.antt`).
+/// With status 0, where contracts know the files and the output: `ReceivePassed` (`specs/Passed.antt`).
 #[tactic(auto, unfolding(crate::specs::Tasks::judge), using(crate::proofs::Working::worked_by))]
 pub fn receive<F: Shelf, O: Sink, L: Ledger>(
     alloc: Global,
@@ -42,18 +40,8 @@ pub fn receive<F: Shelf, O: Sink, L: Ledger>(
     requires within { clocks ≤ 10 ^ 12 }
     requires pin { line.pin < 32 }
     requires bit { 2 ≤ line.bit }
-    ensures ends { CommandEnds
-        (receive_asked files.entry.source.now (option_map (λ t. t.now) files.entry.config)
-        (option_map (λ t. t.now) files.entry.stimulus) clocks line.pin line.bit)
-        (call_by F.holds F.faults O.taken O.waiting O.faults shelf.old shelf.new out.old out.new) result }
-    ensures asked { CommandAsks
-        (receive_asked files.entry.source.now (option_map (λ t. t.now) files.entry.config)
-        (option_map (λ t. t.now) files.entry.stimulus) clocks line.pin line.bit)
-        (F.fetched shelf.old) (F.fetched shelf.new) result }
-    ensures same { F.holds shelf.new ≡ F.holds shelf.old }
-    ensures worked { steps.new ≤ steps.old + most_worked (F.holds shelf.old)
-        (receive_asked files.entry.source.now (option_map (λ t. t.now) files.entry.config)
-        (option_map (λ t. t.now) files.entry.stimulus) clocks line.pin line.bit) }
+    ensures { Obeys (Receive files.entry clocks line) F.Shelf O.Sink shelf.old shelf.new out.old out.new
+        steps.old steps.new result }
 {
     few_clocks_are_worked_out();
     let (setup, schedule) = prepare(alloc, shelf, files)?;
@@ -74,7 +62,7 @@ pub fn write_received<O: Sink, L: Ledger>(
     requires within { clocks ≤ 10 ^ 12 }
     requires pin { line.pin < 32 }
     requires bit { 2 ≤ line.bit }
-    ensures ends { SinkWrites O.taken O.waiting O.faults out.old out.new
+    ensures ends { SinkWrites O.Sink out.old out.new
         (received_text (first_run setup.now) line.pin line.bit schedule.now clocks) result }
     ensures steps { steps.new ≤ steps.old + worked_in (first_run setup.now) schedule.now clocks }
 {

@@ -1,6 +1,7 @@
 //! The command `recheck`: whether the table of a file proves a span, without deriving one.
-ghost use Rattle.std.specs.Prelude.{◌≡◌, ℕ, IfSome, IsSome, List, MatchOption, None, Option, Some, option_map, slice_index_or};
+ghost use Rattle.std.specs.Prelude.{◌≡◌, ℕ, IfSome, IsSome, List, MatchOption, None, Option, Some, slice_index_or};
 ghost use Rattle.command_line.specs.Words.{recheck as recheck_asked};
+ghost use Rattle.command_line.specs.declared.order.Order.TheVariants.{Recheck};
 ghost use Rattle.pin_matrix.specs.Followed.{followed};
 ghost use Rattle.span_texts.specs.FlawLines.{rechecked_line};
 ghost use Rattle.span_check.specs.Proved.{HoldsInEveryRun};
@@ -11,7 +12,8 @@ ghost use Rattle.stages.specs.Judged.{right, span_at};
 ghost use Rattle.stages.specs.Named.{named_from};
 ghost use Rattle.commands.specs.Needs.{HasFlaw, IsProvedBy};
 ghost use Rattle.commands.specs.Outside.{call_by, output_by};
-ghost use Rattle.commands.specs.Promise.{AsksFiles, CommandAsks, CommandEnds};
+ghost use Rattle.commands.specs.Obeys.{ObeysAtRest};
+ghost use Rattle.commands.specs.Promise.{AsksFiles, CommandEnds};
 ghost use Rattle.commands.specs.Written.{SinkWrites};
 ghost use Rattle.commands.specs.Tables.{TellsRecheck};
 
@@ -31,7 +33,7 @@ use std::alloc::Global;
 /// Writes that the table of a file proves the first span of this name, where it does; else nothing. All memory is taken
 /// before the first piece is put.
 ///
-/// With status 0: `RecheckPassed` (`specs/Passed.antt`).
+/// With status 0, where contracts know the files and the output: `RecheckPassed` (`specs/Passed.antt`).
 pub fn recheck_file<F: Shelf, O: Sink>(
     alloc: Global,
     source: &str,
@@ -41,11 +43,8 @@ pub fn recheck_file<F: Shelf, O: Sink>(
     shelf: &mut F,
     out: &mut O,
 ) -> Result<(), Fault>
-    ensures ends { CommandEnds (recheck_asked source.now (option_map (λ t. t.now) config.entry) name.now table.now)
-        (call_by F.holds F.faults O.taken O.waiting O.faults shelf.old shelf.new out.old out.new) result }
-    ensures asked { CommandAsks (recheck_asked source.now (option_map (λ t. t.now) config.entry) name.now table.now)
-        (F.fetched shelf.old) (F.fetched shelf.new) result }
-    ensures same { F.holds shelf.new ≡ F.holds shelf.old }
+    ensures { ObeysAtRest (Recheck source.entry config.entry name.entry table.entry) F.Shelf O.Sink
+        shelf.old shelf.new out.old out.new result }
 {
     let setup = prepare_setup(alloc, shelf, source, config)?;
     match span_named(&setup, name) {
@@ -70,7 +69,7 @@ fn recheck_span<F: Shelf, O: Sink>(
         → IfSome (F.holds shelf.old) (λ files. span_at files source config name ≡ right (setup.now, span.now))
         → Some (place, span.now) ≡ named_from 0 name setup.now.spans
         → CommandEnds (recheck_asked source config name table.now)
-        (call_by F.holds F.faults O.taken O.waiting O.faults shelf.old shelf.new out.old out.new) result }
+        (call_by F.Shelf O.Sink shelf.old shelf.new out.old out.new) result }
     ensures asked { AsksFiles (one_slot file.Table (Some table.now))
         (F.fetched shelf.old) (F.fetched shelf.new) result }
     ensures same { F.holds shelf.new ≡ F.holds shelf.old }
@@ -91,7 +90,7 @@ fn tell_recheck<O: Sink>(
     requires configured { IsSome (slice_index_or setup.now.machines span.now.machine None) }
     requires follow { table.now.follow ≡ followed span.now }
     ensures { TellsRecheck setup.now place span.now table.now.rows
-        (output_by O.taken O.waiting O.faults out.old) (output_by O.taken O.waiting O.faults out.new) result }
+        (output_by O.Sink out.old) (output_by O.Sink out.new) result }
 {
     match shared_by(setup, span) {
         Some(machine) => Err(unproved(alloc, place, span, Refusal::Shared(machine))),
@@ -112,7 +111,7 @@ fn tell_flaw<O: Sink>(
     requires alone { IsUnshared setup.now span.now }
     requires follow { table.now.follow ≡ followed span.now }
     ensures { TellsRecheck setup.now place span.now table.now.rows
-        (output_by O.taken O.waiting O.faults out.old) (output_by O.taken O.waiting O.faults out.new) result }
+        (output_by O.Sink out.old) (output_by O.Sink out.new) result }
 {
     match first_flaw(setup, span, table) {
         Some(found) => Err(flawed(alloc, place, span, found)),
@@ -137,8 +136,7 @@ fn first_flaw(setup: &Setup, span: &Span, table: &Table) -> Option<Flaw>
 
 /// Writes that a table proves the span with this name, and hands on what the output still keeps.
 fn write_rechecked<O: Sink>(out: &mut O, name: &Name) -> Result<(), Fault>
-    ensures { SinkWrites O.taken O.waiting O.faults out.old out.new
-        (rechecked_line name.now) result }
+    ensures { SinkWrites O.Sink out.old out.new (rechecked_line name.now) result }
 {
     let put = put_rechecked(out, name);
     hand_on(out, put)

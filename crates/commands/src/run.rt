@@ -1,12 +1,10 @@
 //! The command `run`: the trace of the first clocks of a block that a source and a configuration set up, with a
 //! stimulus.
-ghost use Rattle.std.specs.Prelude.{◌≡◌, ◌+◌, ◌≤◌, ◌^◌, option_map};
+ghost use Rattle.std.specs.Prelude.{◌+◌, ◌≤◌, ◌^◌};
 ghost use Rattle.block_core.specs.Block.{first_run};
-ghost use Rattle.command_line.specs.Words.{run as run_asked};
+ghost use Rattle.command_line.specs.declared.order.Order.TheVariants.{Run};
 ghost use Rattle.commands.specs.Tasks.{trace_text};
-ghost use Rattle.commands.specs.Outside.{call_by};
-ghost use Rattle.commands.specs.Promise.{CommandAsks, CommandEnds};
-ghost use Rattle.commands.specs.Worked.{most_worked};
+ghost use Rattle.commands.specs.Obeys.{Obeys};
 ghost use Rattle.commands.specs.Written.{SinkWrites};
 ghost use Rattle.idle_engine.specs.Worked.{worked_in};
 
@@ -29,7 +27,7 @@ use vcd_trace::{VcdTrace, failing_early_leaves_a_first_part};
 /// stimulus where one is named. Each span of the block has to be provable; the first one that isn't ends the run, and
 /// nothing is written. All memory is taken before the first piece is put.
 ///
-/// With status 0: `RunPassed` (`specs/Passed.antt`).
+/// With status 0, where contracts know the files and the output: `RunPassed` (`specs/Passed.antt`).
 #[tactic(auto, unfolding(crate::specs::Tasks::judge), using(crate::proofs::Working::worked_by))]
 pub fn run<F: Shelf, O: Sink, L: Ledger>(
     alloc: Global,
@@ -40,16 +38,8 @@ pub fn run<F: Shelf, O: Sink, L: Ledger>(
     steps: &mut Steps<L>,
 ) -> Result<(), Fault>
     requires { clocks ≤ 10 ^ 12 }
-    ensures ends { CommandEnds
-        (run_asked files.entry.source.now (option_map (λ t. t.now) files.entry.config) (option_map (λ t. t.now) files.entry.stimulus) clocks)
-        (call_by F.holds F.faults O.taken O.waiting O.faults shelf.old shelf.new out.old out.new) result }
-    ensures asked { CommandAsks
-        (run_asked files.entry.source.now (option_map (λ t. t.now) files.entry.config)
-        (option_map (λ t. t.now) files.entry.stimulus) clocks)
-        (F.fetched shelf.old) (F.fetched shelf.new) result }
-    ensures same { F.holds shelf.new ≡ F.holds shelf.old }
-    ensures worked { steps.new ≤ steps.old + most_worked (F.holds shelf.old)
-        (run_asked files.entry.source.now (option_map (λ t. t.now) files.entry.config) (option_map (λ t. t.now) files.entry.stimulus) clocks) }
+    ensures { Obeys (Run files.entry clocks) F.Shelf O.Sink shelf.old shelf.new out.old out.new
+        steps.old steps.new result }
 {
     few_clocks_are_worked_out();
     let (setup, schedule) = prepare(alloc, shelf, files)?;
@@ -69,7 +59,7 @@ fn write_trace<O: Sink, L: Ledger>(
     steps: &mut Steps<L>,
 ) -> Result<(), Fault>
     requires { clocks ≤ 10 ^ 12 }
-    ensures ends { SinkWrites O.taken O.waiting O.faults out.old out.new
+    ensures ends { SinkWrites O.Sink out.old out.new
         (trace_text (first_run setup.now) schedule.now clocks) result }
     ensures steps { steps.new ≤ steps.old + worked_in (first_run setup.now) schedule.now clocks }
 {

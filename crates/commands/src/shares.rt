@@ -1,9 +1,7 @@
 //! The command `shares`: the report on the block that a source and a configuration set up.
-ghost use Rattle.std.specs.Prelude.{◌≡◌, option_map};
 ghost use Rattle.block_shares.specs.Report.{shares_text};
-ghost use Rattle.command_line.specs.Words.{shares as shares_asked};
-ghost use Rattle.commands.specs.Outside.{call_by};
-ghost use Rattle.commands.specs.Promise.{CommandAsks, CommandEnds};
+ghost use Rattle.command_line.specs.declared.order.Order.TheVariants.{Shares};
+ghost use Rattle.commands.specs.Obeys.{ObeysAtRest};
 ghost use Rattle.commands.specs.Written.{SinkWrites};
 
 use crate::handing::hand_on;
@@ -17,7 +15,7 @@ use std::alloc::Global;
 /// Writes the report on what the machines of a setup share, by a configuration or by default. No span is asked. All
 /// memory is taken before the first piece is put.
 ///
-/// With status 0: `SharesPassed` (`specs/Passed.antt`).
+/// With status 0, where contracts know the files and the output: `SharesPassed` (`specs/Passed.antt`).
 #[tactic(auto, unfolding(crate::specs::Tasks::judge))]
 pub fn shares<F: Shelf, O: Sink>(
     alloc: Global,
@@ -26,11 +24,8 @@ pub fn shares<F: Shelf, O: Sink>(
     shelf: &mut F,
     out: &mut O,
 ) -> Result<(), Fault>
-    ensures ends { CommandEnds (shares_asked source.now (option_map (λ t. t.now) config.entry))
-        (call_by F.holds F.faults O.taken O.waiting O.faults shelf.old shelf.new out.old out.new) result }
-    ensures asked { CommandAsks (shares_asked source.now (option_map (λ t. t.now) config.entry))
-        (F.fetched shelf.old) (F.fetched shelf.new) result }
-    ensures same { F.holds shelf.new ≡ F.holds shelf.old }
+    ensures { ObeysAtRest (Shares source.entry config.entry) F.Shelf O.Sink
+        shelf.old shelf.new out.old out.new result }
 {
     let setup = prepare_setup(alloc, shelf, source, config)?;
     write_shares(out, &setup)
@@ -38,8 +33,7 @@ pub fn shares<F: Shelf, O: Sink>(
 
 /// Writes the report on a setup, and hands on what the output still keeps.
 fn write_shares<O: Sink>(out: &mut O, setup: &Setup) -> Result<(), Fault>
-    ensures { SinkWrites O.taken O.waiting O.faults out.old out.new
-        (shares_text setup.now) result }
+    ensures { SinkWrites O.Sink out.old out.new (shares_text setup.now) result }
 {
     let put = put_shares(out, setup);
     hand_on(out, put)

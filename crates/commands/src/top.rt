@@ -2,8 +2,7 @@
 ghost use Rattle.std.specs.Prelude.{◌≡◌, ◌≢◌, ◌+◌, ◌≤◌, map, Some, Err, string_bytes};
 ghost use Rattle.command_line.specs.Words.{WordsAreTaken, IsWithinRange, asked_by, most_clocks};
 ghost use Rattle.commands.specs.Outside.{call_by, output_by};
-ghost use Rattle.commands.specs.Promise.{CommandAsks, CommandEnds};
-ghost use Rattle.commands.specs.Worked.{most_worked};
+ghost use Rattle.commands.specs.Obeys.{Obeys};
 ghost use Rattle.commands.specs.Complete.{FilesDecide};
 ghost use Rattle.commands.specs.Ends.{CallAsks, EndsAs, WorkAsks, WorkEnds};
 ghost use Rattle.commands.specs.Steps.{worked_for};
@@ -33,7 +32,8 @@ use step_count::Steps;
 
 /// Does all that the program does. The words begin with the program's name.
 ///
-/// With status 0: the record of the command that they ask for, `RunPassed` and its kin (`specs/Passed.antt`).
+/// With status 0, where contracts know the files and the output: the record of the command that the words ask for,
+/// `RunPassed` and its kin (`specs/Passed.antt`).
 pub fn piotool<F: Shelf, O: Sink, E: Sink, L: Ledger>(
     alloc: Global,
     words: &[String],
@@ -43,13 +43,13 @@ pub fn piotool<F: Shelf, O: Sink, E: Sink, L: Ledger>(
     steps: &mut Steps<L>,
 ) -> Ended
     ensures ends { EndsAs (map string_bytes words.now)
-        (call_by F.holds F.faults O.taken O.waiting O.faults shelf.old shelf.new out.old out.new) result.fault }
+        (call_by F.Shelf O.Sink shelf.old shelf.new out.old out.new) result.fault }
     ensures asked { CallAsks (map string_bytes words.now) (F.fetched shelf.old) (F.fetched shelf.new) result.fault }
     ensures complete { FilesDecide (map string_bytes words.now)
-        (call_by F.holds F.faults O.taken O.waiting O.faults shelf.old shelf.new out.old out.new) result.fault }
+        (call_by F.Shelf O.Sink shelf.old shelf.new out.old out.new) result.fault }
     ensures taken { WordsAreTaken (map string_bytes words.now) → result.fault ≢ Some Fault.Usage }
     ensures status { result.status ≡ told_spec.status_of result.fault }
-    ensures told { TellsFault (output_by E.taken E.waiting E.faults err.old) (output_by E.taken E.waiting E.faults err.new)
+    ensures told { TellsFault (output_by E.Sink err.old) (output_by E.Sink err.new)
         result.fault }
     ensures same { F.holds shelf.new ≡ F.holds shelf.old }
     ensures steps { steps.new ≤ steps.old + most_clocks (map string_bytes words.now) }
@@ -69,7 +69,7 @@ fn work<F: Shelf, O: Sink, L: Ledger>(
     steps: &mut Steps<L>,
 ) -> Result<(), Fault>
     ensures ends { WorkEnds (map string_bytes words.now)
-        (call_by F.holds F.faults O.taken O.waiting O.faults shelf.old shelf.new out.old out.new) result }
+        (call_by F.Shelf O.Sink shelf.old shelf.new out.old out.new) result }
     ensures asked { WorkAsks (map string_bytes words.now) (F.fetched shelf.old) (F.fetched shelf.new) result }
     ensures taken { WordsAreTaken (map string_bytes words.now) → result ≢ Err Fault.Usage }
     ensures same { F.holds shelf.new ≡ F.holds shelf.old }
@@ -91,12 +91,8 @@ fn obey<F: Shelf, O: Sink, L: Ledger>(
     steps: &mut Steps<L>,
 ) -> Result<(), Fault>
     requires { IsWithinRange (asked_by order) }
-    ensures ends { CommandEnds (asked_by order.entry)
-        (call_by F.holds F.faults O.taken O.waiting O.faults shelf.old shelf.new out.old out.new) result }
-    ensures asked { CommandAsks (asked_by order.entry) (F.fetched shelf.old) (F.fetched shelf.new) result }
-    ensures not_usage { result ≢ Err Fault.Usage }
-    ensures same { F.holds shelf.new ≡ F.holds shelf.old }
-    ensures worked { steps.new ≤ steps.old + most_worked (F.holds shelf.old) (asked_by order.entry) }
+    ensures { Obeys order.entry F.Shelf O.Sink shelf.old shelf.new out.old out.new
+        steps.old steps.new result }
 {
     match order {
         Order::Asm { file } => asm(alloc, file, shelf, out),

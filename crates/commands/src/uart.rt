@@ -1,12 +1,10 @@
 //! The command `uart`: what the proved transmitter sends of a file's bytes in the first clocks of a run.
 ghost use Rattle.std.specs.Prelude.{◌≡◌, ◌+◌, ◌≤◌, ◌^◌, ℕ, List};
 ghost use Rattle.block_core.specs.Block.{first_run};
-ghost use Rattle.commands.specs.Outside.{call_by};
-ghost use Rattle.commands.specs.Promise.{CommandAsks, CommandEnds};
+ghost use Rattle.commands.specs.Obeys.{Obeys};
 ghost use Rattle.commands.specs.Tasks.{sent_text};
-ghost use Rattle.commands.specs.Worked.{most_worked};
 ghost use Rattle.commands.specs.Written.{SinkWrites};
-ghost use Rattle.command_line.specs.Words.{uart as uart_asked};
+ghost use Rattle.command_line.specs.declared.order.Order.TheVariants.{Uart};
 ghost use Rattle.pio_uart.specs.Feeding.{fed};
 ghost use Rattle.pio_uart.specs.OneSetup.{transmitter_of};
 ghost use Rattle.idle_engine.specs.Worked.{worked_in};
@@ -27,7 +25,7 @@ use step_count::Steps;
 /// Writes a line for each byte of a file that the transmitter sends in so many clocks, with a tick every `divider`
 /// clocks, 1 to 8,191. All memory is taken before the first piece is put.
 ///
-/// With status 0: `UartPassed` (`specs/Passed.antt`).
+/// With status 0, where contracts know the files and the output: `UartPassed` (`specs/Passed.antt`).
 #[tactic(auto, unfolding(crate::specs::Tasks::judge), using(crate::proofs::Working::sent_by))]
 pub fn uart<F: Shelf, O: Sink, L: Ledger>(
     alloc: Global,
@@ -41,12 +39,8 @@ pub fn uart<F: Shelf, O: Sink, L: Ledger>(
     requires within { clocks ≤ 10 ^ 12 }
     requires some { 1 ≤ divider }
     requires most { divider ≤ 8191 }
-    ensures ends { CommandEnds (uart_asked send.now divider clocks)
-        (call_by F.holds F.faults O.taken O.waiting O.faults shelf.old shelf.new out.old out.new) result }
-    ensures asked { CommandAsks (uart_asked send.now divider clocks)
-        (F.fetched shelf.old) (F.fetched shelf.new) result }
-    ensures same { F.holds shelf.new ≡ F.holds shelf.old }
-    ensures worked { steps.new ≤ steps.old + most_worked (F.holds shelf.old) (uart_asked send.now divider clocks) }
+    ensures { Obeys (Uart send.entry divider clocks) F.Shelf O.Sink shelf.old shelf.new out.old out.new
+        steps.old steps.new result }
 {
     few_clocks_are_worked_out();
     let bytes = fetch_file(alloc, shelf, File::Send, send)?;
@@ -65,8 +59,7 @@ fn send_bytes<O: Sink, L: Ledger>(
     requires within { clocks ≤ 10 ^ 12 }
     requires some { 1 ≤ divider }
     requires most { divider ≤ 8191 }
-    ensures ends { SinkWrites O.taken O.waiting O.faults out.old out.new
-        (sent_text divider bytes.now clocks) result }
+    ensures ends { SinkWrites O.Sink out.old out.new (sent_text divider bytes.now clocks) result }
     ensures steps { steps.new ≤ steps.old + worked_in (first_run (transmitter_of divider)) (fed bytes.now) clocks }
 {
     let schedule = feed(alloc, bytes)?;
@@ -87,7 +80,7 @@ fn write_sent<O: Sink, L: Ledger>(
     requires some { 1 ≤ divider }
     requires most { divider ≤ 8191 }
     ensures ends { (bytes : List ℕ) → schedule.now ≡ fed bytes
-        → SinkWrites O.taken O.waiting O.faults out.old out.new
+        → SinkWrites O.Sink out.old out.new
         (sent_text divider bytes clocks) result }
     ensures steps { steps.new ≤ steps.old + worked_in (first_run (transmitter_of divider)) schedule.now clocks }
 {

@@ -19,11 +19,11 @@ pub(crate) fn step<V, P, R: Runs<V, P>>(
     requires clock { R.kind.in_clock (R.hosted runs.old ports.old) clock }
     requires inside { clock < end }
     requires within { end ≤ 10 ^ 12 }
-    requires ready { R.ready ports.old clock }
+    requires may_ask { R.may_ask ports.old clock }
     requires until { IsUntil (R.kind.acts (R.lines ports.old) (R.hosted runs.old ports.old)) end clock until }
     ensures run { R.hosted runs.new ports.new ≡ R.kind.next (R.lines ports.old) (R.hosted runs.old ports.old) }
     ensures lines { R.lines ports.new ≡ R.lines ports.old }
-    ensures ready { R.ready ports.new (clock + 1) }
+    ensures may_ask { R.may_ask ports.new (clock + 1) }
     ensures until { IsUntil (R.kind.acts (R.lines ports.new) (R.hosted runs.new ports.new)) end (clock + 1) result.0 }
     ensures sample { result.1 ≡ false
         → R.kind.shown (R.hosted runs.new ports.new) ≡ R.kind.shown (R.hosted runs.old ports.old) }

@@ -26,7 +26,7 @@ impl<'a, F: Fifo> Runs<Conduct, HostPorts<'a>> for Conducted<F> {
 
     ghost lines = { λ p. p.lines };
 
-    ghost ready = { λ p n. (p.next ≤ n) × NoneBetween p.lines p.next n };
+    ghost may_ask = { λ p n. (p.next ≤ n) × NoneBetween p.lines p.next n };
 
     ghost calls = { λ b. b.worked.calls };
 

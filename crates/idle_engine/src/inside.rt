@@ -25,7 +25,7 @@ impl<'a, F: Fifo> Runs<Inside, HostPorts<'a>> for Block<F> {
 
     ghost lines = { λ p. p.lines };
 
-    ghost ready = { λ p n. (p.next ≤ n) × NoneBetween p.lines p.next n };
+    ghost may_ask = { λ p n. (p.next ≤ n) × NoneBetween p.lines p.next n };
 
     ghost calls = { λ b. b.calls };
 

@@ -25,7 +25,7 @@ pub(crate) trait Runs<V, P> {
     ghost lines: { P → Lines };
 
     /// The ports may be asked of this clock next: no line of a clock before it is left out.
-    ghost ready: { P → ℕ → Type 0 };
+    ghost may_ask: { P → ℕ → Type 0 };
 
     /// How many clocks were worked out singly.
     ghost calls: { Self → ℕ };
@@ -33,8 +33,8 @@ pub(crate) trait Runs<V, P> {
     /// The laws of the kind, and that the ports needn't be asked of clocks in which the system doesn't act. This call does nothing.
     fn is_of_its_kind(&self, ports: &P)
         ensures kind { IsKind kind }
-        ensures waits { (p : P) (h : Hosted) (n m : ℕ) → ready p n → n ≤ m
-            → ((c : ℕ) → n ≤ c → c < m → kind.acts (lines p) h c ≡ false) → ready p m };
+        ensures waits { (p : P) (h : Hosted) (n m : ℕ) → may_ask p n → n ≤ m
+            → ((c : ℕ) → n ≤ c → c < m → kind.acts (lines p) h c ≡ false) → may_ask p m };
 
     /// What it shows, lent where it is kept as one value.
     fn shown(&self, ports: &P) -> Cow<'_, V>
@@ -44,10 +44,10 @@ pub(crate) trait Runs<V, P> {
     fn asked_clock(&mut self, ports: &mut P, clock: u64)
         requires clock { kind.in_clock (hosted self.old ports.old) clock }
         requires within { clock < 2 ^ 40 }
-        requires ready { ready ports.old clock }
+        requires may_ask { may_ask ports.old clock }
         ensures run { hosted self.new ports.new ≡ kind.next (lines ports.old) (hosted self.old ports.old) }
         ensures lines { lines ports.new ≡ lines ports.old }
-        ensures ready { ready ports.new (clock + 1) }
+        ensures may_ask { may_ask ports.new (clock + 1) }
         ensures calls { calls self.new ≡ calls self.old + 1 };
 
     /// Works out a clock in which the system does nothing, and returns what it may have changed.
@@ -63,7 +63,7 @@ pub(crate) trait Runs<V, P> {
 
     /// The first clock from this one on in which the system acts, while the machines ask for what they ask now, or the end.
     fn next_due(&self, ports: &P, clock: u64, end: u64) -> u64
-        requires ready { ready ports.now clock }
+        requires may_ask { may_ask ports.now clock }
         requires ahead { clock ≤ end }
         requires within { end ≤ 10 ^ 12 }
         ensures { IsUntil (kind.acts (lines ports.now) (hosted self.now ports.now)) end clock result };

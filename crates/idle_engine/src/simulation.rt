@@ -83,10 +83,10 @@ pub fn simulate_inside<F: Fifo, T: Trace<Inside>, L: Ledger>(
     run(block, &mut ports, clocks, trace, steps)
 }
 
-/// Runs a block as `simulate` does, and tells a trace what its machines did in the last clock of note, after each such clock.
+/// Runs a block as `simulate` does, and tells a trace what its machines did in the last clock of note.
 ///
-/// The block is in clock 0, and nothing is told of it yet. The trace is told after clock 0 and each later clock of note, and of no
-/// other: in the others it stays what it was.
+/// The block is in clock 0, and nothing is told of it yet. The trace is told after clock 0, after each later clock of note,
+/// and after each clock in which the system acts. In all others it stays what it was.
 pub fn simulate_conduct<F: Fifo, T: Trace<Conduct>, L: Ledger>(
     block: &mut Conducted<F>,
     schedule: &Schedule,
@@ -159,7 +159,7 @@ fn run<V: Drop, P, R: Runs<V, P>, T: Trace<V>, L: Ledger>(
 ) -> Result<(), TraceFailed>
     requires course { let course = R.kind.course (R.lines ports.old) (R.hosted runs.old ports.old) in
         IsCourse R.kind (R.lines ports.old) (R.hosted runs.old ports.old) course }
-    requires ready { R.ready ports.old 0 }
+    requires may_ask { R.may_ask ports.old 0 }
     requires within { clocks ≤ 10 ^ 12 }
     requires working { T.has_failed trace.old ≡ false }
     ensures ok { let course = R.kind.course (R.lines ports.old) (R.hosted runs.old ports.old) in

@@ -30,7 +30,7 @@ impl<'a, F: Fifo> Runs<(Sample, Sample), (HostPorts<'a>, HostPorts<'a>)> for Twi
 
     ghost lines = { λ p. (p.0.lines, p.1.lines) };
 
-    ghost ready = { λ p n. (p.0.next ≤ n) × (p.1.next ≤ n)
+    ghost may_ask = { λ p n. (p.0.next ≤ n) × (p.1.next ≤ n)
         × NoneBetween p.0.lines p.0.next n × NoneBetween p.1.lines p.1.next n };
 
     ghost calls = { λ b. b.calls };

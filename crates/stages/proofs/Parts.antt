@@ -1,14 +1,16 @@
--- A stage that reads a part of what another one reads: what it fails with, the whole fails with.
-use Rattle.std.proofs.Common.{◌≡◌, ℕ, true, Option, Some, None, IfSome, List, subst}
+-- Stages one after the other: what one of them fails with, the whole fails with, and what all of them give, the whole gives.
+use Rattle.std.proofs.Common.{◌≡◌, ◌∙◌, ℕ, true, Option, Some, None, IfSome, List, [], ◌∷◌, ◌++◌, Result, Ok, Err, refl, sym, ap, subst, append-nil}
 use Rattle.pio_edge.specs.Count.{Faults, failed_at}
 use Rattle.pio_edge.specs.Edge.{Files}
+use Rattle.pio_edge.specs.declared.shelf.Shelf.{Ghosts as ShelfSeen}
 use Rattle.fault_lines.specs.declared.fault.File.{File}
 use Rattle.fault_lines.specs.declared.fault.File.TheVariants as file
 use Rattle.fault_lines.specs.declared.fault.Fault.{Fault}
 use Rattle.fault_lines.specs.declared.fault.Fault.TheVariants as fault
-use Rattle.stages.specs.Judged.{Judged, wrong}
-use Rattle.stages.specs.Fetching.{name_in, one_slot}
-use Rattle.stages.specs.Stages.{HasSuch, Plan, ReadFails, plan_of, shelved}
+use Rattle.stages.specs.Judged.{Judged, right, wrong, and_then}
+use Rattle.stages.specs.Fetching.{Slot, slot, fetches_of, name_in, one_slot, AsksUntil}
+use Rattle.stages.specs.Stages.{HasSuch, Plan, ReadFails, KeepsPlan, plan_of, shelved}
+use Rattle.stages.proofs.Asking.{all_after, part_all, asks_first, asks_after}
 
 -- of known files, what follows from one thing
 pub told : (files : Option Files) (P R : Files → Type 0) → ((f : Files) → P f → R f) → IfSome files P → IfSome files R
@@ -20,111 +22,101 @@ pub both_told : (files : Option Files) (P Q R : Files → Type 0) → ((f : File
 both_told None P Q R so p q = tt
 both_told (Some f) P Q R so p q = so f p q
 
--- and from three
-pub three_told : (files : Option Files) (P Q S R : Files → Type 0) → ((f : Files) → P f → Q f → S f → R f)
-    → IfSome files P → IfSome files Q → IfSome files S → IfSome files R
-three_told None P Q S R so p q s = tt
-three_told (Some f) P Q S R so p q s = so f p q s
-
--- and from four
-pub four_told : (files : Option Files) (P Q S T R : Files → Type 0) → ((f : Files) → P f → Q f → S f → T f → R f)
-    → IfSome files P → IfSome files Q → IfSome files S → IfSome files T → IfSome files R
-four_told None P Q S T R so p q s t = tt
-four_told (Some f) P Q S T R so p q s t = so f p q s t
-
 -- what is so of all files is so of the known ones
 pub of_all : (files : Option Files) (R : Files → Type 0) → ((f : Files) → R f) → IfSome files R
 of_all None R so = tt
 of_all (Some f) R so = so f
 
--- Each file of the part is the whole's file of the same role, to which it comes, and a fault of the part's files is the whole's.
-pub record IsPart {X Y : Type 0} (files : Option Files) (part : Plan X) (whole : Plan Y) : Type 0 where
-  pub named : (role : File) (before after : Faults) → HasSuch (name_in part.slots role) (λ name. after ≡ failed_at name before)
-      → HasSuch (name_in whole.slots role) (λ name. after ≡ failed_at name before)
-  pub reached : (role : File) (before after : Faults) → HasSuch (name_in part.slots role) (λ name. after ≡ failed_at name before)
-      → IfSome files (λ f. whole.reaches f role ≡ true)
-  pub faults : (e : Fault) → IfSome files (λ f. part.comes_to f ≡ wrong e) → IfSome files (λ f. whole.comes_to f ≡ wrong e)
+-- the whole comes to what follows from what a part comes to
+pub goes_on : {X Y : Type 0} (files : Option Files) (whole : Files → Judged Y) (part : Files → Judged X) (rest : Files → X → Judged Y) (j : Judged X)
+    → IfSome files (λ f. whole f ≡ and_then (part f) (rest f)) → IfSome files (λ f. part f ≡ j) → IfSome files (λ f. whole f ≡ and_then j (rest f))
+goes_on {X} files whole part rest j w p = both_told files _ _ _ (λ f e r. e ∙ ap (λ (k : Judged X). and_then k (rest f)) r) w p
 
-part_fails : {X Y : Type 0} (files : Option Files) (before after : Faults) (part : Plan X) (whole : Plan Y) (e : Fault)
-    → IsPart files part whole → ReadFails (shelved files before after) part e → ReadFails (shelved files before after) whole e
-part_fails files before after part whole (fault.Shelf role) is h = (is.named role before after h.0, is.reached role before after h.0)
-part_fails files before after part whole fault.Memory is h = h
-part_fails files before after part whole fault.Usage is h = absurd h
-part_fails files before after part whole fault.Out is h = absurd h
-part_fails files before after part whole (fault.Unproved place name refusal) is h = absurd h
-part_fails files before after part whole (fault.SecondUnproved place name refusal) is h = absurd h
-part_fails files before after part whole (fault.Flaw place name flaw) is h = absurd h
-part_fails files before after part whole (fault.TooLong role) is h = (h.0, is.faults (fault.TooLong role) h.1)
-part_fails files before after part whole (fault.Words line kind) is h = (h.0, is.faults (fault.Words line kind) h.1)
-part_fails files before after part whole (fault.Source line kind) is h = (h.0, is.faults (fault.Source line kind) h.1)
-part_fails files before after part whole (fault.Config key kind) is h = (h.0, is.faults (fault.Config key kind) h.1)
-part_fails files before after part whole (fault.Second key kind) is h = (h.0, is.faults (fault.Second key kind) h.1)
-part_fails files before after part whole (fault.Stim line kind) is h = (h.0, is.faults (fault.Stim line kind) h.1)
-part_fails files before after part whole (fault.Table line kind) is h = (h.0, is.faults (fault.Table line kind) h.1)
-part_fails files before after part whole fault.NoSpan is h = (h.0, is.faults fault.NoSpan h.1)
+-- ---- stages that came out right
 
--- where equations say the shelf before the part
-pub fails : {X Y : Type 0} (files mid_files : Option Files) (before mid after : Faults) (part : Plan X) (whole : Plan Y) (e : Fault)
-    → mid_files ≡ files → mid ≡ before → IsPart files part whole → ReadFails (shelved mid_files mid after) part e
-    → ReadFails (shelved files before after) whole e
-fails files mid_files before mid after part whole e same quiet is h =
-    let there = subst (λ (fs : Option Files). ReadFails (shelved fs mid after) part e) same h in
-    let here = subst (λ (m : Faults). ReadFails (shelved files m after) part e) quiet there in
-    part_fails files before after part whole e is here
+-- These files were read and came: the shelf holds what it held, had no fault, and was asked for them in order.
+pub record Went {F : Type 0} (seen : ShelfSeen F) (slots : List Slot) (before after : F) : Type 0 where
+  pub same : seen.holds after ≡ seen.holds before
+  pub quiet : seen.faults after ≡ seen.faults before
+  pub asked : seen.fetched after ≡ seen.fetched before ++ fetches_of slots
 
--- ---- a plan of one file
+-- none yet
+pub went_nowhere : {F : Type 0} (seen : ShelfSeen F) (shelf : F) → Went seen [] shelf shelf
+went_nowhere seen shelf = record { same = refl; quiet = refl; asked = sym (append-nil (seen.fetched shelf)) }
 
--- What is so of this file's role is so of each role in which the plan has a name.
-pub only_source : (name : Option (List ℕ)) (P : List ℕ → Type 0) (R : File → Type 0) (role : File) → (HasSuch name P → R file.Source)
-    → HasSuch (name_in (one_slot file.Source name) role) P → R role
-only_source name P R file.Source so h = so h
-only_source name P R file.Words so h = absurd h
-only_source name P R file.Config so h = absurd h
-only_source name P R file.Second so h = absurd h
-only_source name P R file.Stimulus so h = absurd h
-only_source name P R file.Table so h = absurd h
-only_source name P R file.Send so h = absurd h
+-- and those of one stage more
+pub went_on : {F X Y : Type 0} (seen : ShelfSeen F) (xs : List Slot) (plan : Plan X) (view : Y → X) (y : Y) (before mid after : F)
+    → Went seen xs before mid → KeepsPlan seen plan view mid after (Ok y) → Went seen (xs ++ plan.slots) before after
+went_on seen xs plan view y before mid after w k = record {
+  same = k.same ∙ w.same;
+  quiet = k.stage.0 ∙ w.quiet;
+  asked = all_after xs plan.slots _ _ _ w.asked k.asked;
+}
 
-pub only_config : (name : Option (List ℕ)) (P : List ℕ → Type 0) (R : File → Type 0) (role : File) → (HasSuch name P → R file.Config)
-    → HasSuch (name_in (one_slot file.Config name) role) P → R role
-only_config name P R file.Source so h = absurd h
-only_config name P R file.Words so h = absurd h
-only_config name P R file.Config so h = so h
-only_config name P R file.Second so h = absurd h
-only_config name P R file.Stimulus so h = absurd h
-only_config name P R file.Table so h = absurd h
-only_config name P R file.Send so h = absurd h
+-- what known files come to after a stage, they came to before it
+pub came_to : {F : Type 0} (seen : ShelfSeen F) (slots : List Slot) (before mid : F) (P : Files → Type 0)
+    → Went seen slots before mid → IfSome (seen.holds mid) P → IfSome (seen.holds before) P
+came_to seen slots before mid P w h = subst (λ (files : Option Files). IfSome files P) w.same h
 
-pub only_second : (name : Option (List ℕ)) (P : List ℕ → Type 0) (R : File → Type 0) (role : File) → (HasSuch name P → R file.Second)
-    → HasSuch (name_in (one_slot file.Second name) role) P → R role
-only_second name P R file.Source so h = absurd h
-only_second name P R file.Words so h = absurd h
-only_second name P R file.Config so h = absurd h
-only_second name P R file.Second so h = so h
-only_second name P R file.Stimulus so h = absurd h
-only_second name P R file.Table so h = absurd h
-only_second name P R file.Send so h = absurd h
+-- all of a plan's files came, and this is what they come to
+pub goes_right : {F X Y : Type 0} (seen : ShelfSeen F) (plan : Plan X) (view : Y → X) (y : Y) (before after : F)
+    → Went seen plan.slots before after → IfSome (seen.holds before) (λ f. plan.comes_to f ≡ right (view y))
+    → KeepsPlan seen plan view before after (Ok y)
+goes_right seen plan view y before after w h = record { same = w.same; stage = (w.quiet, h); asked = w.asked }
 
-pub only_stimulus : (name : Option (List ℕ)) (P : List ℕ → Type 0) (R : File → Type 0) (role : File) → (HasSuch name P → R file.Stimulus)
-    → HasSuch (name_in (one_slot file.Stimulus name) role) P → R role
-only_stimulus name P R file.Source so h = absurd h
-only_stimulus name P R file.Words so h = absurd h
-only_stimulus name P R file.Config so h = absurd h
-only_stimulus name P R file.Second so h = absurd h
-only_stimulus name P R file.Stimulus so h = so h
-only_stimulus name P R file.Table so h = absurd h
-only_stimulus name P R file.Send so h = absurd h
+-- memory ran out after this file came
+pub no_memory : {F X Y V W : Type 0} (seen : ShelfSeen F) (part : Plan X) (whole : Plan Y) (view : V → X) (shown : W → Y) (v : V) (before after : F)
+    → part.slots ≡ whole.slots → KeepsPlan seen part view before after (Ok v) → KeepsPlan seen whole shown before after (Err fault.Memory)
+no_memory seen part whole view shown v before after same k = record {
+  same = k.same;
+  stage = k.stage.0;
+  asked = part_all whole.slots _ _ (k.asked ∙ ap (λ (slots : List Slot). seen.fetched before ++ fetches_of slots) same);
+}
 
--- a plan of one file is a part of each plan that has this file in this role, comes to it, and ends with its faults
-pub one_part : {X Y : Type 0} (files : Option Files) (own : File) (name : Option (List ℕ)) (comes_to : Files → Judged X) (whole : Plan Y)
-    → ((P : List ℕ → Type 0) (R : File → Type 0) (role : File) → (HasSuch name P → R own) → HasSuch (name_in (one_slot own name) role) P → R role)
-    → ((P : List ℕ → Type 0) → HasSuch name P → HasSuch (name_in whole.slots own) P)
-    → IfSome files (λ f. whole.reaches f own ≡ true)
-    → ((e : Fault) → IfSome files (λ f. comes_to f ≡ wrong e) → IfSome files (λ f. whole.comes_to f ≡ wrong e))
-    → IsPart files (plan_of comes_to (one_slot own name)) whole
-one_part files own name comes_to whole only named reached faults = record {
-  named = λ role before after. only (λ n. after ≡ failed_at n before) (λ r. HasSuch (name_in whole.slots r) (λ n. after ≡ failed_at n before)) role
-      (named (λ n. after ≡ failed_at n before));
-  reached = λ role before after. only (λ n. after ≡ failed_at n before) (λ r. IfSome files (λ f. whole.reaches f r ≡ true)) role (λ h. reached);
-  faults = faults;
+-- ---- a stage that fails
+
+-- What is so of this file's role is so of each role in which a plan of this file alone has a name.
+only : (own : File) (name : Option (List ℕ)) (P : List ℕ → Type 0) (R : File → Type 0) (role : File) → (HasSuch name P → R own)
+    → HasSuch (name_in (one_slot own name) role) P → R role
+only file.Source name P R file.Source so h = so h
+only file.Words name P R file.Words so h = so h
+only file.Config name P R file.Config so h = so h
+only file.Second name P R file.Second so h = so h
+only file.Stimulus name P R file.Stimulus so h = so h
+only file.Table name P R file.Table so h = so h
+only file.Send name P R file.Send so h = so h
+only own name P R role so h = absurd h
+
+-- what a stage of one file fails with, where the whole has this file in this role, comes to it, and goes on with it
+part_fails : {X Y : Type 0} (files : Option Files) (before after : Faults) (own : File) (name : Option (List ℕ)) (part : Files → Judged X)
+    (rest : Files → X → Judged Y) (whole : Plan Y) (e : Fault) → ((P : List ℕ → Type 0) → HasSuch name P → HasSuch (name_in whole.slots own) P)
+    → IfSome files (λ f. whole.reaches f own ≡ true) → IfSome files (λ f. whole.comes_to f ≡ and_then (part f) (rest f))
+    → ReadFails (shelved files before after) (plan_of part (one_slot own name)) e → ReadFails (shelved files before after) whole e
+part_fails files before after own name part rest whole (fault.Shelf role) named reached comes h = (
+  only own name (λ n. after ≡ failed_at n before) (λ r. HasSuch (name_in whole.slots r) (λ n. after ≡ failed_at n before)) role (named _) h.0,
+  only own name (λ n. after ≡ failed_at n before) (λ r. IfSome files (λ f. whole.reaches f r ≡ true)) role (λ _. reached) h.0,
+)
+part_fails files before after own name part rest whole fault.Memory named reached comes h = h
+part_fails files before after own name part rest whole fault.Usage named reached comes h = absurd h
+part_fails files before after own name part rest whole fault.Out named reached comes h = absurd h
+part_fails files before after own name part rest whole (fault.Unproved place at refusal) named reached comes h = absurd h
+part_fails files before after own name part rest whole (fault.SecondUnproved place at refusal) named reached comes h = absurd h
+part_fails files before after own name part rest whole (fault.Flaw place at flaw) named reached comes h = absurd h
+part_fails files before after own name part rest whole e named reached comes h =
+    (h.0, goes_on files whole.comes_to part rest (wrong e) comes h.1)
+
+-- and after files that came
+pub fails_after : {F X Y V W : Type 0} (seen : ShelfSeen F) (xs zs : List Slot) (own : File) (name : Option (List ℕ)) (part : Files → Judged X)
+    (rest : Files → X → Judged Y) (whole : Plan Y) (view : V → X) (shown : W → Y) (before mid after : F) (e : Fault)
+    → whole.slots ≡ xs ++ slot own name ∷ zs → ((P : List ℕ → Type 0) → HasSuch name P → HasSuch (name_in whole.slots own) P)
+    → IfSome (seen.holds before) (λ f. whole.reaches f own ≡ true) → IfSome (seen.holds before) (λ f. whole.comes_to f ≡ and_then (part f) (rest f))
+    → Went seen xs before mid → KeepsPlan seen (plan_of part (one_slot own name)) view mid after (Err e)
+    → KeepsPlan seen whole shown before after (Err e)
+fails_after seen xs zs own name part rest whole view shown before mid after e place named reached comes w k = record {
+  same = k.same ∙ w.same;
+  stage = part_fails (seen.holds before) (seen.faults before) (seen.faults after) own name part rest whole e named reached comes
+      (subst (λ (n : Faults). ReadFails (shelved (seen.holds before) n (seen.faults after)) (plan_of part (one_slot own name)) e) w.quiet
+      (subst (λ (files : Option Files). ReadFails (shelved files (seen.faults mid) (seen.faults after)) (plan_of part (one_slot own name)) e) w.same k.stage));
+  asked = subst (λ (slots : List Slot). AsksUntil slots (seen.fetched before) (seen.fetched after) e) (sym place)
+      (asks_after xs (slot own name ∷ zs) _ _ _ e w.asked (asks_first (one_slot own name) zs _ _ e k.asked));
 }

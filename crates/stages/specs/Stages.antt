@@ -1,14 +1,17 @@
 -- What the stages that read promise, one word for each.
 --   Shelved     the shelf before and after a stage
 --   Plan        what a stage reads, and what this comes to
---   Reads       a stage that reads keeps its plan, or ends with its cause
-use Rattle.std.specs.Prelude.{◌≡◌, ℕ, Bool, true, Option, Some, None, List, Result, Ok, Err, IfSome}
+--   Reads       a stage that reads gives what its plan comes to, or ends with its cause
+--   KeepsPlan   the whole promise of a stage that reads
+use Rattle.std.specs.Prelude.{◌≡◌, ℕ, Bool, true, Option, Some, None, List, ◌++◌, Result, Ok, Err, IfSome}
 use Rattle.std.specs.FinMap.{get}
 use Rattle.pio_edge.specs.Count.{Faults, failed_at}
 use Rattle.pio_edge.specs.Edge.{Files}
+use Rattle.pio_edge.specs.declared.shelf.Shelf.{Ghosts as ShelfSeen}
 use Rattle.pio_assemble.specs.Program.{Assembled}
 use Rattle.pin_matrix.specs.declared.assume.Follow.{Follow}
 use Rattle.pin_matrix.specs.declared.setup.Setup.{Setup}
+use Rattle.pin_matrix.specs.declared.span.Span.{Span}
 use Rattle.dreq_pacing.specs.declared.line.Line.{Line}
 use Rattle.block_config.specs.declared.owning.OwningSetup.{OwningSetup}
 use Rattle.span_bounds.specs.declared.row.Row.{Row}
@@ -17,9 +20,9 @@ use Rattle.fault_lines.specs.declared.fault.File.TheVariants as file
 use Rattle.fault_lines.specs.declared.fault.Fault.{Fault}
 use Rattle.fault_lines.specs.declared.fault.Fault.TheVariants as fault
 use Rattle.stages.specs.declared.pair.TwoBlocks.{TwoBlocks}
-use Rattle.stages.specs.Judged.{Judged, right, wrong, read_at, source_at, words_at, setup_at, second_at, schedule_at, schedules_at, prepared_at, pair_at, table_at}
-use Rattle.stages.specs.Roles.{run_reaches, pair_reaches}
-use Rattle.stages.specs.Fetching.{Slot, name_in, one_slot, run_slots, pair_slots}
+use Rattle.stages.specs.Judged.{Judged, right, wrong, and_then, read_at, source_at, words_at, setup_at, second_at, schedule_at, schedules_at, prepared_at, pair_at, table_at, span_at, recheck_at}
+use Rattle.stages.specs.Roles.{run_reaches, recheck_reaches, pair_reaches}
+use Rattle.stages.specs.Fetching.{Slot, Asks, name_in, one_slot, run_slots, pair_slots}
 
 -- there is one, and it is such
 abbrev pub HasSuch : {X : Type 0} → Option X → (X → Type 0) → Type 0
@@ -60,6 +63,13 @@ abbrev pub Reads : {X Y : Type 0} → (Y → X) → Shelved → Plan X → Resul
 Reads view shelf plan (Ok y) =
     (shelf.after ≡ shelf.before) × IfSome shelf.files (λ files. plan.comes_to files ≡ right (view y))
 Reads view shelf plan (Err e) = ReadFails shelf plan e
+
+-- A stage keeps its plan: it leaves what the shelf holds, gives what the files come to, seen by a view, or ends with its
+-- cause, and asks for its files in order. The shelf is as it is seen before and after.
+pub record KeepsPlan {F X Y : Type 0} (seen : ShelfSeen F) (plan : Plan X) (view : Y → X) (before after : F) (result : Result Y Fault) : Type 0 where
+  pub same : seen.holds after ≡ seen.holds before
+  pub stage : Reads view (shelved (seen.holds before) (seen.faults before) (seen.faults after)) plan result
+  pub asked : Asks plan.slots (seen.fetched before) (seen.fetched after) result
 
 -- ---- what each stage reads
 
@@ -113,4 +123,28 @@ pair_plan source config second stimulus = record {
   comes_to = λ files. pair_at files source config second stimulus;
   slots = pair_slots source config second stimulus;
   reaches = λ files role. pair_reaches files source config second role;
+}
+
+-- a setup, and its span of this name
+abbrev pub span_plan : List ℕ → Option (List ℕ) → (name : List ℕ) → Plan (Setup × Span)
+span_plan source config name = record {
+  comes_to = λ files. span_at files source config name;
+  slots = run_slots source config None;
+  reaches = λ files role. run_reaches files source config role;
+}
+
+-- the same, and then the rows of a table file
+abbrev pub recheck_plan : List ℕ → Option (List ℕ) → (name table : List ℕ) → Plan ((Setup × Span) × List Row)
+recheck_plan source config name table = record {
+  comes_to = λ files. recheck_at files source config name table;
+  slots = run_slots source config None ++ one_slot file.Table (Some table);
+  reaches = λ files role. recheck_reaches files source config name role;
+}
+
+-- the same files, where something is made of what they come to
+abbrev pub made_into : {X Y : Type 0} → Plan X → (X → Y) → Plan Y
+made_into plan make = record {
+  comes_to = λ files. and_then (plan.comes_to files) (λ x. right (make x));
+  slots = plan.slots;
+  reaches = plan.reaches;
 }

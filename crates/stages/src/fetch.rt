@@ -1,8 +1,7 @@
 //! A file of a command, fetched whole.
-ghost use Rattle.std.specs.Prelude.{◌≡◌, ◌≤◌, IfOk, Some, vec_len};
-ghost use Rattle.stages.specs.Fetching.{Asks, one_slot};
+ghost use Rattle.std.specs.Prelude.{◌≡◌, ◌≤◌, IfOk, vec_len};
 ghost use Rattle.stages.specs.Judged.{limit};
-ghost use Rattle.stages.specs.Stages.{Reads, file_plan, shelved};
+ghost use Rattle.stages.specs.Stages.{KeepsPlan, file_plan};
 
 use fault_lines::{Fault, File};
 use pio_edge::{Fetch, Shelf};
@@ -16,11 +15,9 @@ pub fn fetch_file<F: Shelf>(
     role: File,
     name: &str,
 ) -> Result<Vec<u8>, Fault>
-    ensures same { F.holds shelf.new ≡ F.holds shelf.old }
+    ensures plan { KeepsPlan F.Shelf (file_plan role name.now)
+        (λ bytes. bytes.items) shelf.old shelf.new result }
     ensures within { IfOk result (λ bytes. vec_len bytes ≤ limit role) }
-    ensures stage { Reads (λ bytes. bytes.items) (shelved (F.holds shelf.old) (F.faults shelf.old) (F.faults shelf.new))
-        (file_plan role name.now) result }
-    ensures asked { Asks (one_slot role (Some name.now)) (F.fetched shelf.old) (F.fetched shelf.new) result }
 {
     let most = limit_of(role);
     match shelf.fetch(alloc, name, most + 1) {

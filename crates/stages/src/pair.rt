@@ -1,7 +1,6 @@
 //! What a run of two blocks reads before it asks spans: the setups of both, and the lines of a stimulus for each.
-ghost use Rattle.std.specs.Prelude.{◌≡◌, IfOk, option_map};
-ghost use Rattle.stages.specs.Fetching.{Asks, pair_slots};
-ghost use Rattle.stages.specs.Stages.{Reads, pair_plan, shelved};
+ghost use Rattle.std.specs.Prelude.{IfOk, option_map};
+ghost use Rattle.stages.specs.Stages.{KeepsPlan, pair_plan};
 ghost use Rattle.stages.specs.Configured.{AreConfigured};
 
 use crate::second::read_second_setup;
@@ -33,15 +32,10 @@ pub fn prepare_pair<F: Shelf>(
     shelf: &mut F,
     files: PairFiles,
 ) -> Result<TwoBlocks, Fault>
-    ensures same { F.holds shelf.new ≡ F.holds shelf.old }
+    ensures plan { KeepsPlan F.Shelf (pair_plan files.entry.source.now files.entry.config.now files.entry.second.now (option_map (λ t. t.now) files.entry.stimulus))
+        (λ p. p) shelf.old shelf.new result }
     ensures first { IfOk result (λ p. AreConfigured p.first) }
     ensures second { IfOk result (λ p. AreConfigured p.second) }
-    ensures stage { Reads (λ p. p) (shelved (F.holds shelf.old) (F.faults shelf.old) (F.faults shelf.new))
-        (pair_plan files.entry.source.now files.entry.config.now files.entry.second.now (option_map (λ t. t.now) files.entry.stimulus)) result }
-    ensures asked { Asks
-        (pair_slots files.entry.source.now files.entry.config.now files.entry.second.now
-        (option_map (λ t. t.now) files.entry.stimulus))
-        (F.fetched shelf.old) (F.fetched shelf.new) result }
 {
     let programs = read_source(alloc, shelf, files.source)?;
     let first = read_setup(alloc, shelf, Some(files.config), &programs)?;

@@ -1,7 +1,6 @@
 //! What a command reads before it asks spans: a setup, and of a run the lines of a stimulus.
-ghost use Rattle.std.specs.Prelude.{◌≡◌, IfOk, None, [], option_map};
-ghost use Rattle.stages.specs.Fetching.{Asks, run_slots};
-ghost use Rattle.stages.specs.Stages.{Reads, run_plan, shelved};
+ghost use Rattle.std.specs.Prelude.{IfOk, None, [], option_map};
+ghost use Rattle.stages.specs.Stages.{KeepsPlan, run_plan};
 ghost use Rattle.stages.specs.Configured.{AreConfigured};
 
 use crate::setup::read_setup;
@@ -22,12 +21,9 @@ pub fn prepare_setup<F: Shelf>(
     source: &str,
     config: Option<&str>,
 ) -> Result<Setup, Fault>
-    ensures same { F.holds shelf.new ≡ F.holds shelf.old }
+    ensures plan { KeepsPlan F.Shelf (run_plan source.now (option_map (λ t. t.now) config.entry) None)
+        (λ setup. (setup, [])) shelf.old shelf.new result }
     ensures configured { IfOk result AreConfigured }
-    ensures stage { Reads (λ setup. (setup, [])) (shelved (F.holds shelf.old) (F.faults shelf.old) (F.faults shelf.new))
-        (run_plan source.now (option_map (λ t. t.now) config.entry) None) result }
-    ensures asked { Asks (run_slots source.now (option_map (λ t. t.now) config.entry) None)
-        (F.fetched shelf.old) (F.fetched shelf.new) result }
 {
     let programs = read_source(alloc, shelf, source)?;
     let setup = read_setup(alloc, shelf, config, &programs)?;
@@ -41,14 +37,9 @@ pub fn prepare<F: Shelf>(
     shelf: &mut F,
     files: RunFiles,
 ) -> Result<(Setup, Schedule), Fault>
-    ensures same { F.holds shelf.new ≡ F.holds shelf.old }
+    ensures plan { KeepsPlan F.Shelf (run_plan files.entry.source.now (option_map (λ t. t.now) files.entry.config) (option_map (λ t. t.now) files.entry.stimulus))
+        (λ p. (p.0, p.1)) shelf.old shelf.new result }
     ensures configured { IfOk result (λ p. AreConfigured p.0) }
-    ensures stage { Reads (λ p. (p.0, p.1)) (shelved (F.holds shelf.old) (F.faults shelf.old) (F.faults shelf.new))
-        (run_plan files.entry.source.now (option_map (λ t. t.now) files.entry.config) (option_map (λ t. t.now) files.entry.stimulus)) result }
-    ensures asked { Asks
-        (run_slots files.entry.source.now (option_map (λ t. t.now) files.entry.config)
-        (option_map (λ t. t.now) files.entry.stimulus))
-        (F.fetched shelf.old) (F.fetched shelf.new) result }
 {
     let programs = read_source(alloc, shelf, files.source)?;
     let setup = read_setup(alloc, shelf, files.config, &programs)?;

@@ -1,8 +1,7 @@
 //! From the programs of a source to what the second of two blocks starts from.
-ghost use Rattle.std.specs.Prelude.{◌≡◌, IfOk, Some, map};
+ghost use Rattle.std.specs.Prelude.{IfOk, map};
 ghost use Rattle.pio_assemble.specs.Program.{assembled_of};
-ghost use Rattle.stages.specs.Fetching.{Asks, one_slot};
-ghost use Rattle.stages.specs.Stages.{Reads, second_plan, shelved};
+ghost use Rattle.stages.specs.Stages.{KeepsPlan, second_plan};
 ghost use Rattle.stages.specs.Configured.{AreConfigured};
 
 use crate::fetch::fetch_file;
@@ -21,12 +20,9 @@ pub fn read_second_setup<F: Shelf>(
     name: &str,
     programs: &[Program],
 ) -> Result<OwningSetup, Fault>
-    ensures same { F.holds shelf.new ≡ F.holds shelf.old }
+    ensures plan { KeepsPlan F.Shelf (second_plan name.now (map assembled_of programs.now))
+        (λ second. second) shelf.old shelf.new result }
     ensures configured { IfOk result (λ second. AreConfigured second.setup) }
-    ensures stage { Reads (λ second. second) (shelved (F.holds shelf.old) (F.faults shelf.old) (F.faults shelf.new))
-        (second_plan name.now (map assembled_of programs.now)) result }
-    ensures asked { Asks (one_slot File.Second (Some name.now))
-        (F.fetched shelf.old) (F.fetched shelf.new) result }
 {
     a_second_configuration_is_not_clipped();
     let bytes = fetch_file(alloc, shelf, File::Second, name)?;

@@ -1,8 +1,7 @@
 //! From the programs of a source to what the block starts from.
-ghost use Rattle.std.specs.Prelude.{◌≡◌, IfOk, Some, map, option_map};
+ghost use Rattle.std.specs.Prelude.{IfOk, Some, map, option_map};
 ghost use Rattle.pio_assemble.specs.Program.{assembled_of};
-ghost use Rattle.stages.specs.Fetching.{Asks, one_slot};
-ghost use Rattle.stages.specs.Stages.{Reads, setup_plan, shelved};
+ghost use Rattle.stages.specs.Stages.{KeepsPlan, setup_plan};
 ghost use Rattle.stages.specs.Configured.{AreConfigured};
 
 use crate::fetch::fetch_file;
@@ -24,12 +23,9 @@ pub fn read_setup<F: Shelf>(
     name: Option<&str>,
     programs: &[Program],
 ) -> Result<Setup, Fault>
-    ensures same { F.holds shelf.new ≡ F.holds shelf.old }
+    ensures plan { KeepsPlan F.Shelf (setup_plan (option_map (λ t. t.now) name.entry) (map assembled_of programs.now))
+        (λ setup. setup) shelf.old shelf.new result }
     ensures configured { IfOk result AreConfigured }
-    ensures stage { Reads (λ setup. setup) (shelved (F.holds shelf.old) (F.faults shelf.old) (F.faults shelf.new))
-        (setup_plan (option_map (λ t. t.now) name.entry) (map assembled_of programs.now)) result }
-    ensures asked { Asks (one_slot File.Config (option_map (λ t. t.now) name.entry))
-        (F.fetched shelf.old) (F.fetched shelf.new) result }
 {
     the_default_is_not_clipped();
     match name {
@@ -50,12 +46,9 @@ fn read_named<F: Shelf>(
     name: &str,
     programs: &[Program],
 ) -> Result<Setup, Fault>
-    ensures same { F.holds shelf.new ≡ F.holds shelf.old }
+    ensures plan { KeepsPlan F.Shelf (setup_plan (Some name.now) (map assembled_of programs.now))
+        (λ setup. setup) shelf.old shelf.new result }
     ensures configured { IfOk result AreConfigured }
-    ensures stage { Reads (λ setup. setup) (shelved (F.holds shelf.old) (F.faults shelf.old) (F.faults shelf.new))
-        (setup_plan (Some name.now) (map assembled_of programs.now)) result }
-    ensures asked { Asks (one_slot File.Config (Some name.now))
-        (F.fetched shelf.old) (F.fetched shelf.new) result }
 {
     a_configuration_is_not_clipped();
     let bytes = fetch_file(alloc, shelf, File::Config, name)?;

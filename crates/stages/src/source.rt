@@ -1,8 +1,7 @@
 //! From a source's name to the programs in it.
-ghost use Rattle.std.specs.Prelude.{◌≡◌, Some, map};
+ghost use Rattle.std.specs.Prelude.{map};
 ghost use Rattle.pio_assemble.specs.Program.{assembled_of};
-ghost use Rattle.stages.specs.Fetching.{Asks, one_slot};
-ghost use Rattle.stages.specs.Stages.{Reads, shelved, source_plan};
+ghost use Rattle.stages.specs.Stages.{KeepsPlan, source_plan};
 
 use crate::fetch::fetch_file;
 use fault_lines::{Fault, File};
@@ -17,11 +16,8 @@ pub fn read_source<F: Shelf>(
     shelf: &mut F,
     name: &str,
 ) -> Result<Vec<Program>, Fault>
-    ensures same { F.holds shelf.new ≡ F.holds shelf.old }
-    ensures stage { Reads (λ programs. map assembled_of programs.items) (shelved (F.holds shelf.old) (F.faults shelf.old) (F.faults shelf.new))
-        (source_plan name.now) result }
-    ensures asked { Asks (one_slot File.Source (Some name.now))
-        (F.fetched shelf.old) (F.fetched shelf.new) result }
+    ensures { KeepsPlan F.Shelf (source_plan name.now)
+        (λ programs. map assembled_of programs.items) shelf.old shelf.new result }
 {
     let bytes = fetch_file(alloc, shelf, File::Source, name)?;
     match assemble(alloc, &bytes) {

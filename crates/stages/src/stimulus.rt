@@ -1,7 +1,6 @@
 //! From a stimulus's name to its lines.
-ghost use Rattle.std.specs.Prelude.{◌≡◌, Some, option_map};
-ghost use Rattle.stages.specs.Fetching.{Asks, one_slot};
-ghost use Rattle.stages.specs.Stages.{Reads, schedule_plan, schedules_plan, shelved};
+ghost use Rattle.std.specs.Prelude.{Some, option_map};
+ghost use Rattle.stages.specs.Stages.{KeepsPlan, schedule_plan, schedules_plan};
 
 use crate::fetch::fetch_file;
 use dreq_pacing::{Schedule, StimFault, read_pair_stimulus, read_stimulus};
@@ -15,11 +14,8 @@ pub fn read_schedule<F: Shelf>(
     shelf: &mut F,
     name: Option<&str>,
 ) -> Result<Schedule, Fault>
-    ensures same { F.holds shelf.new ≡ F.holds shelf.old }
-    ensures stage { Reads (λ schedule. schedule) (shelved (F.holds shelf.old) (F.faults shelf.old) (F.faults shelf.new))
-        (schedule_plan (option_map (λ t. t.now) name.entry)) result }
-    ensures asked { Asks (one_slot File.Stimulus (option_map (λ t. t.now) name.entry))
-        (F.fetched shelf.old) (F.fetched shelf.new) result }
+    ensures { KeepsPlan F.Shelf (schedule_plan (option_map (λ t. t.now) name.entry))
+        (λ schedule. schedule) shelf.old shelf.new result }
 {
     match name {
         Some(name) => read_named(alloc, shelf, name),
@@ -30,11 +26,8 @@ pub fn read_schedule<F: Shelf>(
 /// The lines of the stimulus of this name.
 #[tactic(auto, unfolding(crate::specs::Judged::stimulus_at))]
 fn read_named<F: Shelf>(alloc: Global, shelf: &mut F, name: &str) -> Result<Schedule, Fault>
-    ensures same { F.holds shelf.new ≡ F.holds shelf.old }
-    ensures stage { Reads (λ schedule. schedule) (shelved (F.holds shelf.old) (F.faults shelf.old) (F.faults shelf.new))
-        (schedule_plan (Some name.now)) result }
-    ensures asked { Asks (one_slot File.Stimulus (Some name.now))
-        (F.fetched shelf.old) (F.fetched shelf.new) result }
+    ensures { KeepsPlan F.Shelf (schedule_plan (Some name.now))
+        (λ schedule. schedule) shelf.old shelf.new result }
 {
     let bytes = fetch_file(alloc, shelf, File::Stimulus, name)?;
     match read_stimulus(alloc, &bytes) {
@@ -50,11 +43,8 @@ pub fn read_schedules<F: Shelf>(
     shelf: &mut F,
     name: Option<&str>,
 ) -> Result<(Schedule, Schedule), Fault>
-    ensures same { F.holds shelf.new ≡ F.holds shelf.old }
-    ensures stage { Reads (λ lines. (lines.0, lines.1)) (shelved (F.holds shelf.old) (F.faults shelf.old) (F.faults shelf.new))
-        (schedules_plan (option_map (λ t. t.now) name.entry)) result }
-    ensures asked { Asks (one_slot File.Stimulus (option_map (λ t. t.now) name.entry))
-        (F.fetched shelf.old) (F.fetched shelf.new) result }
+    ensures { KeepsPlan F.Shelf (schedules_plan (option_map (λ t. t.now) name.entry))
+        (λ lines. (lines.0, lines.1)) shelf.old shelf.new result }
 {
     match name {
         Some(name) => read_named_pair(alloc, shelf, name),
@@ -69,11 +59,8 @@ fn read_named_pair<F: Shelf>(
     shelf: &mut F,
     name: &str,
 ) -> Result<(Schedule, Schedule), Fault>
-    ensures same { F.holds shelf.new ≡ F.holds shelf.old }
-    ensures stage { Reads (λ lines. (lines.0, lines.1)) (shelved (F.holds shelf.old) (F.faults shelf.old) (F.faults shelf.new))
-        (schedules_plan (Some name.now)) result }
-    ensures asked { Asks (one_slot File.Stimulus (Some name.now))
-        (F.fetched shelf.old) (F.fetched shelf.new) result }
+    ensures { KeepsPlan F.Shelf (schedules_plan (Some name.now))
+        (λ lines. (lines.0, lines.1)) shelf.old shelf.new result }
 {
     let bytes = fetch_file(alloc, shelf, File::Stimulus, name)?;
     match read_pair_stimulus(alloc, &bytes) {

@@ -1,7 +1,6 @@
 //! From the name of a table file to its table.
-ghost use Rattle.std.specs.Prelude.{◌≡◌, IfOk, Some};
-ghost use Rattle.stages.specs.Fetching.{Asks, one_slot};
-ghost use Rattle.stages.specs.Stages.{Reads, shelved, table_plan};
+ghost use Rattle.std.specs.Prelude.{◌≡◌, IfOk};
+ghost use Rattle.stages.specs.Stages.{KeepsPlan, table_plan};
 
 use crate::fetch::fetch_file;
 use fault_lines::{Fault, File};
@@ -19,11 +18,9 @@ pub fn fetch_table<F: Shelf>(
     name: &str,
     follow: Follow,
 ) -> Result<Table, Fault>
-    ensures same { F.holds shelf.new ≡ F.holds shelf.old }
-    ensures stage { Reads (λ table. table.rows) (shelved (F.holds shelf.old) (F.faults shelf.old) (F.faults shelf.new))
-        (table_plan follow name.now) result }
+    ensures plan { KeepsPlan F.Shelf (table_plan follow name.now)
+        (λ table. table.rows) shelf.old shelf.new result }
     ensures follow { IfOk result (λ table. table.follow ≡ follow) }
-    ensures asked { Asks (one_slot File.Table (Some name.now)) (F.fetched shelf.old) (F.fetched shelf.new) result }
 {
     let bytes = fetch_file(alloc, shelf, File::Table, name)?;
     match read_table(alloc, follow, &bytes) {

@@ -1,7 +1,5 @@
 //! From the name of a file of words to its words.
-ghost use Rattle.std.specs.Prelude.{◌≡◌, Some};
-ghost use Rattle.stages.specs.Fetching.{Asks, one_slot};
-ghost use Rattle.stages.specs.Stages.{Reads, shelved, words_plan};
+ghost use Rattle.stages.specs.Stages.{KeepsPlan, words_plan};
 
 use crate::fetch::fetch_file;
 use arrayvec::ArrayVec;
@@ -17,10 +15,8 @@ pub fn fetch_words<F: Shelf>(
     shelf: &mut F,
     name: &str,
 ) -> Result<ArrayVec<u16, 32>, Fault>
-    ensures same { F.holds shelf.new ≡ F.holds shelf.old }
-    ensures stage { Reads (λ words. words.items) (shelved (F.holds shelf.old) (F.faults shelf.old) (F.faults shelf.new))
-        (words_plan name.now) result }
-    ensures asked { Asks (one_slot File.Words (Some name.now)) (F.fetched shelf.old) (F.fetched shelf.new) result }
+    ensures { KeepsPlan F.Shelf (words_plan name.now)
+        (λ words. words.items) shelf.old shelf.new result }
 {
     let bytes = fetch_file(alloc, shelf, File::Words, name)?;
     match read_words(&bytes) {

@@ -1,6 +1,7 @@
 use Rattle.std.proofs.Common.{map, string_bytes, refl, subst}
 use Rattle.command_line.specs.Words.{asked_by, IsFaultOfWords, WordsAreRefused}
-use Rattle.commands.proofs.Wanting.{work_ends, usage_ends}
+use Rattle.commands.specs.Outside.{call_by}
+use Rattle.commands.proofs.Wanting.{work_ends, usage_ends, never_usage}
 use Rattle.commands.proofs.Asking.{work_asks, usage_asks, memory_asks}
 use Rattle.commands.proofs.top.work.Goals as goal
 
@@ -26,3 +27,8 @@ returns-in-Err-Usage-clause-asked g c =
 pub returns-in-Err-Memory-clause-asked : goal.returns-in-Err-Memory-clause-asked
 returns-in-Err-Memory-clause-asked g c =
     memory_asks (map string_bytes c.args.words.now) _
+
+pub returns-in-Ok-clause-taken : goal.returns-in-Ok-clause-taken
+returns-in-Ok-clause-taken g c = λ taken.
+    never_usage (asked_by c.in-Ok.order) (call_by g.F.Shelf g.O.Sink c.args.shelf.now c.obey.new.shelf c.args.out.now c.obey.new.out)
+    c.obey.result c.obey.ensures.ends

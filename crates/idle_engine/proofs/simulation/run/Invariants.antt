@@ -14,7 +14,7 @@ invariant-clocks g l = let k = g.R.Runs.kind in
       clocks_at : (n : ℕ) → k.in_clock (course.at n) n;
       run : g.R.Runs.hosted l.runs l.ports ≡ course.at l.clock;
       lines : g.R.Runs.lines l.ports ≡ g.R.Runs.lines l.fn.ports;
-      ready : g.R.Runs.ready l.ports l.clock;
+      may_ask : g.R.Runs.may_ask l.ports l.clock;
       within : l.clock ≤ l.clocks;
       until : IsUntil (k.acts (g.R.Runs.lines l.fn.ports) (g.R.Runs.hosted l.runs l.ports)) l.clocks l.clock l.until;
       stirs : 0 < l.clock → l.clock < l.clocks → k.stirs (g.R.Runs.lines l.fn.ports) (course.at l.clock) ≡ true;

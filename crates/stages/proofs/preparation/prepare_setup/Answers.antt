@@ -1,47 +1,34 @@
-use Rattle.std.proofs.Common.{None, Some, ◌++◌, map, option_map, refl}
+use Rattle.std.proofs.Common.{None, [], map, option_map, refl}
 use Rattle.std.proofs.lemmas.Result.{err_from_is_err_and}
 use Rattle.pio_assemble.specs.Program.{assembled_of}
-use Rattle.fault_lines.specs.declared.fault.File.TheVariants.{Source, Config, Stimulus}
-use Rattle.stages.specs.Fetching.{one_slot}
-use Rattle.stages.proofs.Asking.{all_after, asks_first, asks_after}
-use Rattle.stages.proofs.Parts.{fails}
-use Rattle.stages.proofs.Preparing.{source_part, setup_part}
+use Rattle.stages.proofs.Parts.{of_all, went_nowhere, went_on, came_to}
+use Rattle.stages.proofs.Preparing.{prepared, source_fails, setup_fails}
 use Rattle.stages.proofs.preparation.prepare_setup.Goals as goal
 
-pub returns-in_err-programs-clause-stage : goal.returns-in_err-programs-clause-stage
-returns-in_err-programs-clause-stage g c =
+pub returns-in_err-programs-clause-plan : goal.returns-in_err-programs-clause-plan
+returns-in_err-programs-clause-plan g c =
     let p = err_from_is_err_and c.from_residual.result c.from_residual.ensures.1 in
-    let part = source_part _ c.args.source.now (option_map (λ t. t.now) c.args.config) None in
-    rw (p.1, p.2) (fails _ _ _ _ _ _ _ _ refl refl part c.in_err-programs.ensures.stage)
+    rw (p.1, p.2) (source_fails g.F.Shelf c.args.source.now (option_map (λ t. t.now) c.args.config) None _ _ _ _ _ c.in_err-programs.ensures)
 
-pub returns-in_err-setup-clause-stage : goal.returns-in_err-setup-clause-stage
-returns-in_err-setup-clause-stage g c =
+pub returns-in_err-setup-clause-plan : goal.returns-in_err-setup-clause-plan
+returns-in_err-setup-clause-plan g c =
     let p = err_from_is_err_and c.from_residual-in_err-setup.result c.from_residual-in_err-setup.ensures.1 in
-    let part = setup_part _ c.args.source.now (option_map (λ t. t.now) c.args.config) None
-    (map assembled_of c.in_ok-programs.programs.items) c.in_ok-programs.ensures.stage.1 in
-    rw (p.1, p.2) (fails _ _ _ _ _ _ _ _ c.in_ok-programs.ensures.same c.in_ok-programs.ensures.stage.0 part
-    (rw c.deref.ensures.value at c.in_err-setup.ensures.stage))
+    let source = went_on g.F.Shelf [] _ _ _ _ _ _ (went_nowhere g.F.Shelf _) c.in_ok-programs.ensures in
+    rw (p.1, p.2) (setup_fails g.F.Shelf c.args.source.now (option_map (λ t. t.now) c.args.config) None
+    (map assembled_of c.in_ok-programs.programs.items) _ _ _ _ _ _
+    c.in_ok-programs.ensures.stage.1 source (rw c.deref.ensures.value at c.in_err-setup.ensures.plan))
 
-pub returns-in_err-programs-clause-asked : goal.returns-in_err-programs-clause-asked
-returns-in_err-programs-clause-asked g c =
-    let p = err_from_is_err_and c.from_residual.result c.from_residual.ensures.1 in
-    let source = one_slot Source (Some c.args.source.now) in
-    let config = one_slot Config (option_map (λ t. t.now) c.args.config) in
-    let none = one_slot Stimulus None in
-    rw (p.1, p.2) (asks_first source (config ++ none) _ _ _ c.in_err-programs.ensures.asked)
-
-pub returns-in_err-setup-clause-asked : goal.returns-in_err-setup-clause-asked
-returns-in_err-setup-clause-asked g c =
-    let p = err_from_is_err_and c.from_residual-in_err-setup.result c.from_residual-in_err-setup.ensures.1 in
-    let source = one_slot Source (Some c.args.source.now) in
-    let config = one_slot Config (option_map (λ t. t.now) c.args.config) in
-    let none = one_slot Stimulus None in
-    rw (p.1, p.2) (asks_after source (config ++ none) _ _ _ _ c.in_ok-programs.ensures.asked
-    (asks_first config none _ _ _ c.in_err-setup.ensures.asked))
-
-pub returns-clause-asked : goal.returns-clause-asked
-returns-clause-asked g c =
-    let source = one_slot Source (Some c.args.source.now) in
-    let config = one_slot Config (option_map (λ t. t.now) c.args.config) in
-    let none = one_slot Stimulus None in
-    all_after source (config ++ none) _ _ _ c.in_ok-programs.ensures.asked c.in_ok-setup.ensures.asked
+pub returns-clause-plan : goal.returns-clause-plan
+returns-clause-plan g c =
+    let set = rw c.deref.ensures.value at c.in_ok-setup.ensures.plan in
+    let source = went_on g.F.Shelf [] _ _ _ _ _ _ (went_nowhere g.F.Shelf _) c.in_ok-programs.ensures in
+    let both = went_on g.F.Shelf _ _ _ _ _ _ _ source set in
+    record {
+      same = both.same;
+      stage = (
+        both.quiet,
+        prepared _ c.args.source.now (option_map (λ t. t.now) c.args.config) None _ _ _
+            c.in_ok-programs.ensures.stage.1 (came_to g.F.Shelf _ _ _ _ source set.stage.1) (of_all _ _ (λ f. refl)),
+      );
+      asked = both.asked;
+    }

@@ -1,11 +1,22 @@
-use Rattle.std.proofs.Common.{Some, []}
+use Rattle.std.proofs.Common.{rules, Some, [], refl}
 use Rattle.fault_lines.specs.declared.fault.File.TheVariants.{Stimulus}
-use Rattle.stages.specs.Fetching.{one_slot}
-use Rattle.stages.proofs.Asking.{part_all, stops_last}
+use Rattle.stages.specs.Judged.{pair_stimulus_at}
+use Rattle.stages.proofs.Asking.{stops_last}
+use Rattle.stages.proofs.Parts.{no_memory}
 use Rattle.stages.proofs.stimulus.read_named_pair.Goals as goal
 
-pub returns-in-Err-Memory-clause-asked : goal.returns-in-Err-Memory-clause-asked
-returns-in-Err-Memory-clause-asked g c = part_all (one_slot Stimulus (Some c.args.name.now)) _ _ c.in_ok-bytes.ensures.asked
+-- as the search finds it; a wrong body is refused at once
+pub returns-in-Ok : goal.returns-in-Ok
+unfolding pair_stimulus_at
+returns-in-Ok g c = record { same = c.in_ok-bytes.ensures.plan.same; stage = search rules steps 1000000; asked = c.in_ok-bytes.ensures.plan.asked }
 
-pub returns-clause-asked : goal.returns-clause-asked
-returns-clause-asked g c = stops_last [] Stimulus (Some c.args.name.now) _ _ c.in_ok-bytes.ensures.asked
+pub returns-in-Err-Memory : goal.returns-in-Err-Memory
+returns-in-Err-Memory g c = no_memory g.F.Shelf _ _ _ _ _ _ _ refl c.in_ok-bytes.ensures.plan
+
+pub returns : goal.returns
+unfolding pair_stimulus_at
+returns g c = record {
+  same = c.in_ok-bytes.ensures.plan.same;
+  stage = search rules steps 1000000;
+  asked = stops_last [] Stimulus (Some c.args.name.now) _ _ c.in_ok-bytes.ensures.plan.asked;
+}

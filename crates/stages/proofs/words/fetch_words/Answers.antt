@@ -4,13 +4,15 @@ use Rattle.stages.specs.Judged.{words_at}
 use Rattle.stages.proofs.Asking.{stops_last}
 use Rattle.stages.proofs.words.fetch_words.Goals as goal
 
-pub returns-clause-asked : goal.returns-clause-asked
-returns-clause-asked g c = stops_last [] Words (Some c.args.name.now) _ _ c.in_ok-bytes.ensures.asked
-
 -- as the search finds it; a wrong body is refused at once
-pub returns-in-Ok-clause-stage : goal.returns-in-Ok-clause-stage
+pub returns-in-Ok : goal.returns-in-Ok
 unfolding words_at
-returns-in-Ok-clause-stage g c = search rules steps 1000000
+returns-in-Ok g c = record { same = c.in_ok-bytes.ensures.plan.same; stage = search rules steps 1000000; asked = c.in_ok-bytes.ensures.plan.asked }
 
-pub returns-in-Ok-clause-asked : goal.returns-in-Ok-clause-asked
-returns-in-Ok-clause-asked g c = search rules steps 300000
+pub returns : goal.returns
+unfolding words_at
+returns g c = record {
+  same = c.in_ok-bytes.ensures.plan.same;
+  stage = search rules steps 1000000;
+  asked = stops_last [] Words (Some c.args.name.now) _ _ c.in_ok-bytes.ensures.plan.asked;
+}

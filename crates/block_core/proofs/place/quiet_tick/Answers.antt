@@ -2,7 +2,7 @@ use Rattle.std.proofs.Common.{ap, sym, ◌∙◌}
 use Rattle.sm_registers.specs.declared.intent.Intent.{Intent}
 use Rattle.dreq_pacing.specs.Due.{quiet}
 use Rattle.block_core.proofs.Showing.{still_shows}
-use Rattle.block_core.proofs.place.quiet_step.Goals as goal
+use Rattle.block_core.proofs.place.quiet_tick.Goals as goal
 
 pub tell-requires-clause-shows : goal.tell-requires-clause-shows
 tell-requires-clause-shows g c = λ unused silent.
