@@ -10,6 +10,8 @@ use Rattle.pio_encode.specs.declared.act.OutDestination.{OutDestination}
 use Rattle.pio_encode.specs.declared.act.OutDestination.TheVariants as out_destination
 use Rattle.pio_encode.specs.declared.act.MovDestination.{MovDestination}
 use Rattle.pio_encode.specs.declared.act.MovDestination.TheVariants as mov_destination
+use Rattle.pio_encode.specs.declared.act.MovOperation.{MovOperation}
+use Rattle.pio_encode.specs.declared.act.MovSource.{MovSource}
 use Rattle.pio_encode.specs.declared.act.SetDestination.{SetDestination}
 use Rattle.pio_encode.specs.declared.act.SetDestination.TheVariants as set_destination
 use Rattle.pio_encode.specs.declared.op.Op.{Op}
@@ -19,7 +21,7 @@ use Rattle.sm_registers.specs.declared.registers.Registers.{Registers}
 use Rattle.sm_registers.specs.View.{View}
 use Rattle.sm_registers.specs.declared.sticky.TheConstants.{TX_STALL}
 use Rattle.sm_registers.specs.Queues.{Queues}
-use Rattle.sm_registers.specs.Rules.{current_act, fills_osr, is_pull, bits_out, is_mov_osr, waits_for_tx, raises}
+use Rattle.sm_registers.specs.Rules.{current_act, fills_osr, is_pull, bits_out, waits_for_tx, raises}
 use Rattle.sm_registers.specs.Effects.{Effect, stall, counted_down, jmp_effect, wait_effect, in_effect, autopushed, out_to, out_effect, push_effect, pulled, pull_effect, mov_to, mov_effect, irq_effect, set_effect, effect_of}
 use Rattle.sm_registers.specs.State.{queues_of}
 use Rattle.sm_registers.specs.Tick.{after_effect, refills, refilled, osr_filled_from, tick_delay, tick_by, tick_of}
@@ -90,14 +92,14 @@ out_to_count out_destination.Pc value n s r = refl
 out_to_count out_destination.Isr value n s r = refl
 out_to_count out_destination.Exec value n s r = refl
 
-mov_to_count : (d : MovDestination) (value : ℕ) (s : MachineSetup) (r : Registers) → is_mov_osr d ≡ false → (mov_to d value s r).registers.out_count ≡ r.out_count
-mov_to_count mov_destination.Pins value s r h = refl
-mov_to_count mov_destination.X value s r h = refl
-mov_to_count mov_destination.Y value s r h = refl
-mov_to_count mov_destination.Exec value s r h = refl
-mov_to_count mov_destination.Pc value s r h = refl
-mov_to_count mov_destination.Isr value s r h = refl
-mov_to_count mov_destination.Osr value s r h = cc
+mov_to_count : (d : MovDestination) (o : MovOperation) (source : MovSource) (value : ℕ) (s : MachineSetup) (r : Registers) → fills_osr (Mov d o source) ≡ false → (mov_to d value s r).registers.out_count ≡ r.out_count
+mov_to_count mov_destination.Pins o source value s r h = refl
+mov_to_count mov_destination.X o source value s r h = refl
+mov_to_count mov_destination.Y o source value s r h = refl
+mov_to_count mov_destination.Exec o source value s r h = refl
+mov_to_count mov_destination.Pc o source value s r h = refl
+mov_to_count mov_destination.Isr o source value s r h = refl
+mov_to_count mov_destination.Osr o source value s r h = cc
 
 set_count : (d : SetDestination) (value : ℕ) (s : MachineSetup) (r : Registers) → (set_effect d value s r).registers.out_count ≡ r.out_count
 unfolding set_effect
@@ -144,7 +146,7 @@ reached_effect (In source n) s v q r f h k = reached_in _ s q r.begun r _ h h
 reached_effect (Out d n) s v q r f h k = reached_out d n s q r h
 reached_effect (Push if_full block) s v q r f h k = search (rules, reached_if, reached_by) depth 20
 reached_effect (Pull if_empty block) s v q r f h k = reached_pull if_empty block _ s q r f h
-reached_effect (Mov d o source) s v q r f h k = reached_by _ _ (same_reached _ _ _ h (mov_to_count d _ s r k))
+reached_effect (Mov d o source) s v q r f h k = reached_by _ _ (same_reached _ _ _ h (mov_to_count d o source _ s r k))
 reached_effect (Irq clear waits index) s v q r f h k = search (rules, reached_if, reached_by) depth 20
 reached_effect (Set d value) s v q r f h k = reached_by _ _ (same_reached _ _ _ h (set_count d value s r))
 reached_effect Nothing s v q r f h k = reached_by _ _ h

@@ -10,6 +10,8 @@ use Rattle.pio_encode.specs.declared.act.OutDestination.{OutDestination}
 use Rattle.pio_encode.specs.declared.act.OutDestination.TheVariants as out_destination
 use Rattle.pio_encode.specs.declared.act.MovDestination.{MovDestination}
 use Rattle.pio_encode.specs.declared.act.MovDestination.TheVariants as mov_destination
+use Rattle.pio_encode.specs.declared.act.MovOperation.{MovOperation}
+use Rattle.pio_encode.specs.declared.act.MovSource.{MovSource}
 use Rattle.pio_encode.specs.declared.act.SetDestination.{SetDestination}
 use Rattle.pio_encode.specs.declared.act.SetDestination.TheVariants as set_destination
 use Rattle.pio_encode.specs.Word.{reading_of}
@@ -17,7 +19,7 @@ use Rattle.pin_matrix.specs.declared.machine.MachineSetup.{MachineSetup}
 use Rattle.sm_registers.specs.declared.registers.Registers.{Registers}
 use Rattle.sm_registers.specs.View.{View}
 use Rattle.sm_registers.specs.Queues.{Queues}
-use Rattle.sm_registers.specs.Rules.{current_act, writes_pc, is_exec, is_mov_pc, is_mov_exec}
+use Rattle.sm_registers.specs.Rules.{current_act, writes_pc, is_exec}
 use Rattle.sm_registers.specs.Effects.{Effect, counted_down, jumps, jmp_effect, wait_effect, in_effect, autopushed, with_bits_out, out_to, out_effect, push_effect, pulled, pull_effect, mov_to, mov_effect, irq_effect, set_effect, effect_of}
 use Rattle.sm_registers.specs.Tick.{current_word, next_pc, pc_after, delay_after, tick_of}
 use Rattle.sm_registers.proofs.Ticks.{op_now, effect_now, in_delay, rest_delay, stalled_is, done, stuck}
@@ -119,14 +121,16 @@ leads_out : (d : OutDestination) (n : ℕ) (s : MachineSetup) (v : View) (q : Qu
 unfolding out_effect
 leads_out d n s v q r = leads_if _ s v r _ _ _ (leads_stall _ s v r _ refl (still_by r _ refl refl refl refl)) (leads_out_to d _ n s v r)
 
-leads_mov_to : (d : MovDestination) (value : ℕ) (a : Act) (s : MachineSetup) (v : View) (r : Registers) → writes_pc a s v r ≡ is_mov_pc d → is_exec a ≡ is_mov_exec d → Leads a s v r (mov_to d value s r)
-leads_mov_to mov_destination.Pins value a s v r h k = leads_still a s v r _ k (still_by r _ refl refl refl refl)
-leads_mov_to mov_destination.X value a s v r h k = leads_still a s v r _ k (still_by r _ refl refl refl refl)
-leads_mov_to mov_destination.Y value a s v r h k = leads_still a s v r _ k (still_by r _ refl refl refl refl)
-leads_mov_to mov_destination.Exec value a s v r h k = record { pc = refl; delay = refl; jump = λ t. refl; quiet = λ t. cc; exec = λ t u. refl }
-leads_mov_to mov_destination.Pc value a s v r h k = record { pc = refl; delay = refl; jump = λ t. cc; quiet = λ t. refl; exec = λ t. cc }
-leads_mov_to mov_destination.Isr value a s v r h k = leads_still a s v r _ k (still_by r _ refl refl refl refl)
-leads_mov_to mov_destination.Osr value a s v r h k = leads_still a s v r _ k (still_by r _ refl refl refl refl)
+leads_mov_to :
+    (d : MovDestination) (o : MovOperation) (source : MovSource) (value : ℕ) (s : MachineSetup) (v : View) (r : Registers)
+    → Leads (Mov d o source) s v r (mov_to d value s r)
+leads_mov_to mov_destination.Pins o source value s v r = leads_still _ s v r _ refl (still_by r _ refl refl refl refl)
+leads_mov_to mov_destination.X o source value s v r = leads_still _ s v r _ refl (still_by r _ refl refl refl refl)
+leads_mov_to mov_destination.Y o source value s v r = leads_still _ s v r _ refl (still_by r _ refl refl refl refl)
+leads_mov_to mov_destination.Exec o source value s v r = record { pc = refl; delay = refl; jump = λ t. refl; quiet = λ t. cc; exec = λ t u. refl }
+leads_mov_to mov_destination.Pc o source value s v r = record { pc = refl; delay = refl; jump = λ t. cc; quiet = λ t. refl; exec = λ t. cc }
+leads_mov_to mov_destination.Isr o source value s v r = leads_still _ s v r _ refl (still_by r _ refl refl refl refl)
+leads_mov_to mov_destination.Osr o source value s v r = leads_still _ s v r _ refl (still_by r _ refl refl refl refl)
 
 still_pull : (if_empty block : Bool) (s : MachineSetup) (q : Queues) (r : Registers) → IsStill r (pull_effect if_empty block s q r)
 unfolding pull_effect
@@ -140,7 +144,7 @@ leads (In source n) s v q r = leads_still _ s v r _ refl (still_in s q r.begun r
 leads (Out d n) s v q r = leads_out d n s v q r
 leads (Push if_full block) s v q r = leads_still _ s v r _ refl (search (rules, still_if, still_by) depth 20)
 leads (Pull if_empty block) s v q r = leads_still _ s v r _ refl (still_pull if_empty block s q r)
-leads (Mov d o source) s v q r = leads_mov_to d _ _ s v r refl refl
+leads (Mov d o source) s v q r = leads_mov_to d o source _ s v r
 leads (Irq clear waits index) s v q r = leads_still _ s v r _ refl (search (rules, still_if, still_by) depth 20)
 leads (Set d value) s v q r = leads_still _ s v r _ refl (still_set d value s r)
 leads Nothing s v q r = leads_still _ s v r _ refl (still_by r _ refl refl refl refl)
