@@ -1,5 +1,5 @@
 -- Ticks that change nothing, and ticks that see only what they read.
-use Rattle.std.proofs.Common.{◌≡◌, ℕ, ◌+◌, ◌-◌, ◌*◌, ◌/◌, ◌%◌, ◌^◌, ◌<◌, ◌==◌, nat_lt, min, Bool, true, false, cond, not, ◌&&◌, if◌then◌else◌, Option, Some, None, is_some, [], ◌∷◌, refl, sym, ap, ◌∙◌, rules, arith}
+use Rattle.std.proofs.Common.{◌≡◌, ℕ, ◌+◌, ◌-◌, ◌*◌, ◌/◌, ◌%◌, ◌^◌, ◌<◌, ◌==◌, nat_lt, min, Bool, true, false, cond, not, ◌&&◌, if◌then◌else◌, Option, Some, None, is_some, [], ◌∷◌, refl, sym, ap, ◌∙◌, arith}
 use Rattle.std.proofs.lemmas.Bool.{and_parts, not-true}
 use Rattle.std.proofs.lemmas.Bool.Decides.{nat_tests}
 use Rattle.pio_encode.specs.declared.act.Act.{Act}
@@ -10,15 +10,10 @@ use Rattle.pio_encode.specs.declared.act.WaitSource.{WaitSource}
 use Rattle.pio_encode.specs.declared.act.WaitSource.TheVariants as wait_source
 use Rattle.pio_encode.specs.declared.act.InSource.{InSource}
 use Rattle.pio_encode.specs.declared.act.InSource.TheVariants as in_source
-use Rattle.pio_encode.specs.declared.act.OutDestination.{OutDestination}
-use Rattle.pio_encode.specs.declared.act.OutDestination.TheVariants as out_destination
 use Rattle.pio_encode.specs.declared.act.MovDestination.{MovDestination}
-use Rattle.pio_encode.specs.declared.act.MovDestination.TheVariants as mov_destination
 use Rattle.pio_encode.specs.declared.act.MovOperation.{MovOperation}
 use Rattle.pio_encode.specs.declared.act.MovSource.{MovSource}
 use Rattle.pio_encode.specs.declared.act.MovSource.TheVariants as mov_source
-use Rattle.pio_encode.specs.declared.act.SetDestination.{SetDestination}
-use Rattle.pio_encode.specs.declared.act.SetDestination.TheVariants as set_destination
 use Rattle.pio_encode.specs.declared.op.Op.{Op}
 use Rattle.pio_encode.specs.Word.{reading_of}
 use Rattle.irq_flags.specs.Flags.{flag_of}
@@ -33,9 +28,10 @@ use Rattle.sm_registers.specs.declared.intent.Kind.TheVariants.{First, Late, Del
 use Rattle.sm_registers.specs.Intents.{no_intent}
 use Rattle.sm_registers.specs.Laws.{IsAlike, bit_of, read_of, jmp_reads, wait_reads, in_reads, mov_reads, irq_reads}
 use Rattle.sm_registers.specs.Idling.{is_unmet, stays, undelayed, waits_again}
-use Rattle.sm_registers.specs.Effects.{Effect, is_due, quiet, stall, has_polarity, waited_bit, waited_flag, jmp_effect, wait_effect, in_effect, autopushed, out_to, out_effect, push_effect, pulled, pull_effect, mov_to, mov_effect, operated, irq_effect, set_effect, effect_of}
+use Rattle.sm_registers.specs.Effects.{Effect, is_due, quiet, stall, has_polarity, waited_bit, waited_flag, jmp_effect, wait_effect, in_effect, autopushed, mov_to, mov_effect, operated, irq_effect, effect_of}
 use Rattle.sm_registers.specs.Rules.{current_act}
 use Rattle.sm_registers.specs.Tick.{current_word, after_effect, refills, refilled, osr_filled_from, side_writes, tick_delay, tick_by, tick_word, tick_of}
+use Rattle.sm_registers.proofs.Effects.{does}
 
 -- without a refill the registers stay
 unfilled : (due : Bool) (front : Option ℕ) (r : Registers) → (due && is_some front) ≡ false → cond due (osr_filled_from front r) r ≡ r
@@ -167,83 +163,6 @@ tick_alike s v w q r h =
     ap (λ e. cond (nat_lt 0 r.delay) (tick_delay s q r) (tick_by op s q r e)) effects
     ∙ ap (λ u. cond (nat_lt 0 r.delay) (tick_delay s q r) (tick_word (reading_of u s.side_rule) s w q r)) h.word
 
--- an effect that stalls does nothing but to raise sticky flags
-pub record IsStill (r : Registers) (e : Effect) : Type 0 where
-  pub same : e.stalled ≡ true → e ≡ record (stall r) { sticky = e.sticky }
-
-still_if :
-    (r : Registers) (b : Bool) (x y : Effect) → (b ≡ true → IsStill r x) → (b ≡ false → IsStill r y) → IsStill r (cond b x y)
-still_if r true x y h k = h refl
-still_if r false x y h k = k refl
-
-still_done : (r : Registers) (e : Effect) → e.stalled ≡ false → IsStill r e
-still_done r e h = record { same = λ k. cc }
-
-still_stall : (r : Registers) (c : ℕ) → IsStill r (record (stall r) { sticky = c })
-still_stall r c = record { same = λ k. refl }
-
-still_autopushed : (s : MachineSetup) (q : Queues) (r : Registers) → IsStill r (autopushed s q r)
-still_autopushed s q r = search (rules, still_if, still_done, still_stall)
-
--- a late IN has shifted
-still_in :
-    (s : MachineSetup) (q : Queues) (b : Bool) (r x : Registers) → b ≡ true → IsStill r (autopushed s q (cond b r x))
-still_in s q true r x h = still_autopushed s q r
-still_in s q false r x h = cc
-
-still_out_to : (d : OutDestination) (value n : ℕ) (s : MachineSetup) (r x : Registers) → IsStill r (out_to d value n s x)
-still_out_to out_destination.Pins value n s r x = still_done r _ refl
-still_out_to out_destination.X value n s r x = still_done r _ refl
-still_out_to out_destination.Y value n s r x = still_done r _ refl
-still_out_to out_destination.Null value n s r x = still_done r _ refl
-still_out_to out_destination.Pindirs value n s r x = still_done r _ refl
-still_out_to out_destination.Pc value n s r x = still_done r _ refl
-still_out_to out_destination.Isr value n s r x = still_done r _ refl
-still_out_to out_destination.Exec value n s r x = still_done r _ refl
-
-still_mov_to : (d : MovDestination) (value : ℕ) (s : MachineSetup) (r : Registers) → IsStill r (mov_to d value s r)
-still_mov_to mov_destination.Pins value s r = still_done r _ refl
-still_mov_to mov_destination.X value s r = still_done r _ refl
-still_mov_to mov_destination.Y value s r = still_done r _ refl
-still_mov_to mov_destination.Exec value s r = still_done r _ refl
-still_mov_to mov_destination.Pc value s r = still_done r _ refl
-still_mov_to mov_destination.Isr value s r = still_done r _ refl
-still_mov_to mov_destination.Osr value s r = still_done r _ refl
-
-still_set : (d : SetDestination) (value : ℕ) (s : MachineSetup) (r : Registers) → IsStill r (set_effect d value s r)
-unfolding set_effect
-still_set set_destination.Pins value s r = still_done r _ refl
-still_set set_destination.X value s r = still_done r _ refl
-still_set set_destination.Y value s r = still_done r _ refl
-still_set set_destination.Pindirs value s r = still_done r _ refl
-
-still_pulled : (front : Option ℕ) (block : Bool) (r : Registers) → IsStill r (pulled front block r)
-still_pulled None block r = search (rules, still_if, still_done, still_stall)
-still_pulled (Some word) block r = still_done r _ refl
-
--- a late IRQ has raised its flag
-still_irq :
-    (clear waits begun up : Bool) (r : Registers) (a b c : Effect) → a.stalled ≡ false → b.stalled ≡ false → begun ≡ true
-    → IsStill r (cond clear a (cond (not waits) b (cond (not begun) c (cond up (stall r) (quiet r)))))
-still_irq true waits begun up r a b c h k t = still_done r a h
-still_irq false false begun up r a b c h k t = still_done r b k
-still_irq false true false up r a b c h k t = cc
-still_irq false true true true r a b c h k t = still_stall r 0
-still_irq false true true false r a b c h k t = still_done r _ refl
-
-pub still_effect : (a : Act) (s : MachineSetup) (v : View) (q : Queues) (r : Registers) → r.begun ≡ true → IsStill r (effect_of a s v q r)
-unfolding effect_of jmp_effect wait_effect in_effect out_effect push_effect pull_effect mov_effect irq_effect
-still_effect (Jmp c a) s v q r h = still_done r _ refl
-still_effect (Wait polarity source index) s v q r h = search (rules, still_if, still_done, still_stall)
-still_effect (In source n) s v q r h = still_in s q r.begun r _ h
-still_effect (Out d n) s v q r h = search (rules, still_if, still_stall, still_out_to)
-still_effect (Push if_full block) s v q r h = search (rules, still_if, still_done, still_stall) depth 20
-still_effect (Pull if_empty block) s v q r h = search (rules, still_if, still_done, still_pulled)
-still_effect (Mov d o source) s v q r h = still_mov_to d _ s r
-still_effect (Irq clear waits index) s v q r h = still_irq clear waits r.begun _ r _ _ _ refl refl h
-still_effect (Set d value) s v q r h = still_set d value s r
-still_effect Nothing s v q r h = still_done r _ refl
-
 -- the intent of a tick that stalls and does nothing else, by its side-set and whether it refills
 abbrev waiting : (pindirs : Bool) (side_set : ℕ × ℕ) (take : Bool) (kind : Kind) (c : ℕ) → Intent
 waiting pindirs side_set take kind c = record {
@@ -298,7 +217,7 @@ late_stall_waits s v q r begun left h stalled =
     let none : nat_lt 0 r.delay ≡ false = grind (arith, nat_tests) in
     let here : tick_of s v q r ≡ tick_by op s q r e = rw none refl in
     let same : e ≡ record (stall r) { sticky = e.sticky } =
-    (still_effect op.act s v q r begun).same (sym (ap (λ x. x.1.stalled) here) ∙ stalled) in
+    (does op.act s v q r).still begun (sym (ap (λ x. x.1.stalled) here) ∙ stalled) in
     here ∙ ap (λ x. tick_by op s q r x) same ∙ still_tick op s q r e.sticky begun h
     ∙ ap (λ c. (r, record no_intent { sticky = c; kind = Late; stalled = true })) (sym (ap (λ x. x.1.sticky) here))
 

@@ -1,3 +1,4 @@
+pub mod Effects
 pub mod Placed
 pub mod Written
 pub mod Planned

@@ -1,5 +1,5 @@
 -- Which sticky flags stay up: what a stall has raised, in late ticks that raise it again.
-use Rattle.std.proofs.Common.{◌≡◌, ℕ, ◌-◌, ◌<◌, ◌≤◌, ◌==◌, nat_le, max, Bool, true, false, cond, ◌&&◌, Option, Some, None, is_some, List, [], ◌∷◌, length, slice_get, bit_or, refl, sym, ap, subst, ◌∙◌, inl, inr, rules, arith}
+use Rattle.std.proofs.Common.{◌≡◌, ℕ, ◌-◌, ◌<◌, ◌≤◌, ◌==◌, nat_le, max, Bool, true, false, cond, ◌&&◌, Option, Some, None, is_some, List, [], ◌∷◌, length, slice_get, bit_or, refl, sym, ap, subst, ◌∙◌, inl, inr, arith}
 use Rattle.std.specs.Int.{bit_at}
 use Rattle.std.specs.Int.Bits.{or_zero_l}
 use Rattle.std.proofs.lemmas.Bool.{cases_lt, and_parts}
@@ -8,11 +8,6 @@ use Rattle.std.proofs.lemmas.Nat.Bits.{bit_at_or, same_from_bits}
 use Rattle.pio_encode.specs.declared.act.Act.{Act}
 use Rattle.pio_encode.specs.declared.act.Act.TheVariants.{Jmp, Wait, In, Out, Push, Pull, Mov, Irq, Set, Nothing}
 use Rattle.pio_encode.specs.declared.act.OutDestination.{OutDestination}
-use Rattle.pio_encode.specs.declared.act.OutDestination.TheVariants as out_destination
-use Rattle.pio_encode.specs.declared.act.MovDestination.{MovDestination}
-use Rattle.pio_encode.specs.declared.act.MovDestination.TheVariants as mov_destination
-use Rattle.pio_encode.specs.declared.act.SetDestination.{SetDestination}
-use Rattle.pio_encode.specs.declared.act.SetDestination.TheVariants as set_destination
 use Rattle.pio_encode.specs.Word.{act_of}
 use Rattle.fifo_pair.specs.Fifos.{Fifos}
 use Rattle.pin_matrix.specs.declared.machine.MachineSetup.{MachineSetup}
@@ -21,12 +16,13 @@ use Rattle.sm_registers.specs.declared.registers.Registers.{Registers}
 use Rattle.sm_registers.specs.View.{View}
 use Rattle.sm_registers.specs.Queues.{Queues}
 use Rattle.sm_registers.specs.Rules.{current_act}
-use Rattle.sm_registers.specs.Effects.{Effect, starves, with_bits_in, in_word, jmp_effect, wait_effect, in_effect, autopushed, out_to, out_effect, push_effect, pulled, pull_effect, mov_to, mov_effect, irq_effect, set_effect, effect_of}
+use Rattle.sm_registers.specs.Effects.{Effect, starves, effect_of}
 use Rattle.sm_registers.specs.State.{queues_of}
 use Rattle.sm_registers.specs.Tick.{word_at, after_effect, refilled, osr_filled_from, tick_delay, tick_by, tick_of}
 use Rattle.sm_registers.specs.Idling.{stirs}
 use Rattle.sm_registers.specs.StallFlags.{AreUp, IsToldAct, IsKnown}
 use Rattle.sm_registers.proofs.Autopull.{below_refilled}
+use Rattle.sm_registers.proofs.Effects.{stall_flags, does}
 use Rattle.sm_registers.proofs.Ticks.{op_now, effect_now, in_delay, at_rest, sticky_is}
 use Rattle.sm_registers.proofs.Stirs.{calm_from}
 
@@ -66,103 +62,11 @@ pub known_more :
     (s : MachineSetup) (v : View) (r : Registers) (more sticky : ℕ) → IsKnown v s r sticky → IsKnown v s r (bit_or more sticky)
 known_more s v r x k h = λ t. told_more (current_act v r) s r.out_count x k (h t)
 
--- the flags of a stall
-abbrev stall_flags : Act → Queues → ℕ
-stall_flags (Jmp c address) q = 0
-stall_flags (Wait polarity source index) q = 0
-stall_flags (In source n) q = RX_STALL
-stall_flags (Out destination n) q = cond (starves q) TX_STALL 0
-stall_flags (Push if_full block) q = RX_STALL
-stall_flags (Pull if_empty block) q = TX_STALL
-stall_flags (Mov destination operation source) q = 0
-stall_flags (Irq clear waits index) q = 0
-stall_flags (Set destination value) q = 0
-stall_flags Nothing q = 0
-
--- an effect that stalls raises these flags, and leaves PC and the pending word
-record IsRaised (flags : ℕ) (r : Registers) (e : Effect) : Type 0 where
-  sticky : e.stalled ≡ true → e.sticky ≡ flags
-  pc : e.stalled ≡ true → e.registers.pc ≡ r.pc
-  pending : e.stalled ≡ true → e.registers.pending ≡ r.pending
-
-raised_if : (flags : ℕ) (r : Registers) (b : Bool) (x y : Effect) → IsRaised flags r x → IsRaised flags r y → IsRaised flags r (cond b x y)
-raised_if flags r true x y h k = h
-raised_if flags r false x y h k = k
-
-raised_done : (flags : ℕ) (r : Registers) (e : Effect) → e.stalled ≡ false → IsRaised flags r e
-raised_done flags r e h = record { sticky = λ k. cc; pc = λ k. cc; pending = λ k. cc }
-
-raised_by :
-    (flags : ℕ) (r : Registers) (e : Effect) → e.sticky ≡ flags → e.registers.pc ≡ r.pc → e.registers.pending ≡ r.pending
-    → IsRaised flags r e
-raised_by flags r e h k l = record { sticky = λ t. h; pc = λ t. k; pending = λ t. l }
-
-raised_autopushed :
-    (s : MachineSetup) (q : Queues) (r x : Registers) → x.pc ≡ r.pc → x.pending ≡ r.pending → IsRaised RX_STALL r (autopushed s q x)
-raised_autopushed s q r x h k =
-    raised_if _ _ (s.autopush && nat_le s.push_threshold x.in_count) _ _
-    (raised_if _ _ q.rx_full _ _ (raised_by _ _ _ refl h k) (raised_done _ _ _ refl)) (raised_done _ _ _ refl)
-
-raised_in :
-    (s : MachineSetup) (q : Queues) (b : Bool) (r x : Registers) → x.pc ≡ r.pc → x.pending ≡ r.pending
-    → IsRaised RX_STALL r (autopushed s q (cond b r x))
-raised_in s q true r x h k = raised_autopushed s q r r refl refl
-raised_in s q false r x h k = raised_autopushed s q r x h k
-
-done_out_to : (d : OutDestination) (value n : ℕ) (s : MachineSetup) (r : Registers) → (out_to d value n s r).stalled ≡ false
-done_out_to out_destination.Pins value n s r = refl
-done_out_to out_destination.X value n s r = refl
-done_out_to out_destination.Y value n s r = refl
-done_out_to out_destination.Null value n s r = refl
-done_out_to out_destination.Pindirs value n s r = refl
-done_out_to out_destination.Pc value n s r = refl
-done_out_to out_destination.Isr value n s r = refl
-done_out_to out_destination.Exec value n s r = refl
-
-done_mov_to : (d : MovDestination) (value : ℕ) (s : MachineSetup) (r : Registers) → (mov_to d value s r).stalled ≡ false
-done_mov_to mov_destination.Pins value s r = refl
-done_mov_to mov_destination.X value s r = refl
-done_mov_to mov_destination.Y value s r = refl
-done_mov_to mov_destination.Exec value s r = refl
-done_mov_to mov_destination.Pc value s r = refl
-done_mov_to mov_destination.Isr value s r = refl
-done_mov_to mov_destination.Osr value s r = refl
-
-done_set : (d : SetDestination) (value : ℕ) (s : MachineSetup) (r : Registers) → (set_effect d value s r).stalled ≡ false
-unfolding set_effect
-done_set set_destination.Pins value s r = refl
-done_set set_destination.X value s r = refl
-done_set set_destination.Y value s r = refl
-done_set set_destination.Pindirs value s r = refl
-
-raised_pulled : (front : Option ℕ) (block : Bool) (r : Registers) → IsRaised TX_STALL r (pulled front block r)
-raised_pulled None block r = raised_if _ _ block _ _ (raised_by _ _ _ refl refl refl) (raised_done _ _ _ refl)
-raised_pulled (Some word) block r = raised_done _ _ _ refl
-
-raised_effect : (a : Act) (s : MachineSetup) (v : View) (q : Queues) (r : Registers) → IsRaised (stall_flags a q) r (effect_of a s v q r)
-unfolding effect_of jmp_effect wait_effect in_effect out_effect push_effect pull_effect mov_effect irq_effect
-raised_effect (Jmp c address) s v q r = raised_done _ _ _ refl
-raised_effect (Wait polarity source index) s v q r = search (rules, raised_if, raised_done, raised_by)
-raised_effect (In source n) s v q r = raised_in s q r.begun r (with_bits_in (in_word source s v r) n s r) refl refl
-raised_effect (Out d n) s v q r =
-    raised_if _ _ (s.autopull && nat_le s.pull_threshold r.out_count) _ _ (raised_by _ _ _ refl refl refl) (raised_done _ _ _ (done_out_to d _ n s _))
-raised_effect (Push if_full block) s v q r = search (rules, raised_if, raised_done, raised_by) depth 20
-raised_effect (Pull if_empty block) s v q r = search (rules, raised_if, raised_done, raised_pulled)
-raised_effect (Mov d o source) s v q r = raised_done _ _ _ (done_mov_to d _ s r)
-raised_effect (Irq clear waits index) s v q r = search (rules, raised_if, raised_done, raised_by) depth 20
-raised_effect (Set d value) s v q r = raised_done _ _ _ (done_set d value s r)
-raised_effect Nothing s v q r = raised_done _ _ _ refl
-
 -- an OUT stalls where the OSR's count has reached the threshold, with autopull
-stalls_by : (b : Bool) (x y : Effect) → y.stalled ≡ false → (cond b x y).stalled ≡ true → b ≡ true
-stalls_by true x y h k = refl
-stalls_by false x y h k = cc
-
 out_stalls :
-    (d : OutDestination) (n : ℕ) (s : MachineSetup) (q : Queues) (r : Registers) → (out_effect d n s q r).stalled ≡ true
+    (d : OutDestination) (n : ℕ) (s : MachineSetup) (v : View) (q : Queues) (r : Registers) → (effect_of (Out d n) s v q r).stalled ≡ true
     → (s.autopull ≡ true) × (nat_le s.pull_threshold r.out_count ≡ true)
-unfolding out_effect
-out_stalls d n s q r h = and_parts s.autopull _ (stalls_by (s.autopull && nat_le s.pull_threshold r.out_count) _ _ (done_out_to d _ n s _) h)
+out_stalls d n s v q r h = and_parts s.autopull _ ((does (Out d n) s v q r).due refl refl h)
 
 -- a refill keeps what is known
 reached_if :
@@ -234,7 +138,7 @@ told_stalled (Jmp c address) s v q r x k one h = tt
 told_stalled (Wait polarity source index) s v q r x k one h = tt
 told_stalled (In source n) s v q r x k one h = up_now RX_STALL k
 told_stalled (Out d n) s v q r x k one h = λ t.
-    let pulls = (out_stalls d n s q r h).0 in
+    let pulls = (out_stalls d n s v q r h).0 in
     up_if (starves q) k (λ some. not_below _ _ (below_refilled s q x pulls (one some)) t)
 told_stalled (Push if_full block) s v q r x k one h = up_now RX_STALL k
 told_stalled (Pull if_empty block) s v q r x k one h = up_now TX_STALL k
@@ -258,10 +162,10 @@ after_stalled delay s r e true h = rw h refl
 after_stalled delay s r e false h = rw h refl
 
 after_act :
-    (delay : ℕ) (s : MachineSetup) (v : View) (q : Queues) (r : Registers) (e : Effect) (flags : ℕ) → e.stalled ≡ true → IsRaised flags r e
+    (delay : ℕ) (s : MachineSetup) (v : View) (q : Queues) (r : Registers) (e : Effect) → e.stalled ≡ true → e.registers.pc ≡ r.pc → e.registers.pending ≡ r.pending
     → current_act v (after_effect delay s r e) ≡ current_act v r
 unfolding after_effect
-after_act delay s v q r e flags h raised = rw h (act_at v (record e.registers { begun = true }) r (raised.pc h) (raised.pending h))
+after_act delay s v q r e h pc pending = rw h (act_at v (record e.registers { begun = true }) r pc pending)
 
 known_by :
     (s : MachineSetup) (v : View) (q : Queues) (r : Registers) (sticky : ℕ) → IsOneTx q
@@ -272,12 +176,12 @@ known_by s v q r k one =
     let e : Effect = effect_now s v q r in
     let delay : ℕ = (op_now s v r).delay in
     let after : Registers = after_effect delay s r e in
-    let raised = raised_effect (current_act v r) s v q r in
+    let does = does (current_act v r) s v q r in
     known_filled s v q after (bit_or e.sticky k) (λ t.
     let stalled : e.stalled ≡ true = sym (after_stalled delay s r e e.stalled refl) ∙ t in
-    let flags = raised.sticky stalled in
+    let flags = does.sticky stalled in
     let told = told_stalled (current_act v r) s v q r after k one stalled in
-    subst (λ a. IsToldAct a s (refilled s q after).out_count (bit_or e.sticky k)) (sym (after_act delay s v q r e _ stalled raised))
+    subst (λ a. IsToldAct a s (refilled s q after).out_count (bit_or e.sticky k)) (sym (after_act delay s v q r e stalled does.pc does.waiting))
     (subst (λ f. IsToldAct (current_act v r) s (refilled s q after).out_count (bit_or f k)) (sym flags) told))
 
 -- a tick keeps what is known
@@ -306,7 +210,7 @@ unfolding effect_of
 up_stalled (Jmp c address) s v q r k h told = or_zero_l k
 up_stalled (Wait polarity source index) s v q r k h told = or_zero_l k
 up_stalled (In source n) s v q r k h told = told
-up_stalled (Out d n) s v q r k h told = up_either (starves q) k (told (out_stalls d n s q r h).1)
+up_stalled (Out d n) s v q r k h told = up_either (starves q) k (told (out_stalls d n s v q r h).1)
 up_stalled (Push if_full block) s v q r k h told = told
 up_stalled (Pull if_empty block) s v q r k h told = told
 up_stalled (Mov destination operation source) s v q r k h told = or_zero_l k
@@ -322,6 +226,6 @@ calm_raises s v q r k known h = elim (cases_lt 0 r.delay) [
   | inl left ↦ ap (λ x. bit_or x.1.sticky k) (in_delay s v q r left) ∙ or_zero_l k
   | inr none ↦ (let rest : r.delay ≡ 0 = omega arith in
       let calm = calm_from s v q r rest h in
-      let flags = sticky_is s v q r rest ∙ (raised_effect (current_act v r) s v q r).sticky calm.stalled in
+      let flags = sticky_is s v q r rest ∙ (does (current_act v r) s v q r).sticky calm.stalled in
       ap (λ f. bit_or f k) flags ∙ up_stalled (current_act v r) s v q r k calm.stalled (known calm.begun))
 ]

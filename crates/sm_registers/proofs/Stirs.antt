@@ -12,12 +12,13 @@ use Rattle.sm_registers.specs.declared.intent.Intent.{Intent}
 use Rattle.sm_registers.specs.declared.intent.Kind.TheVariants.{First, Late, Delay}
 use Rattle.sm_registers.specs.Intents.{no_intent}
 use Rattle.sm_registers.specs.Ranges.{IsPlaced}
-use Rattle.sm_registers.specs.Effects.{Effect}
+use Rattle.sm_registers.specs.Effects.{Effect, stall}
 use Rattle.sm_registers.specs.Tick.{after_effect, refills, tick_delay, tick_by, tick_of}
 use Rattle.sm_registers.specs.Idling.{begins, begins_next, finishes, stirs, only_counts, only_waits, after_ticks, stirs_at, undelayed, stays, idle_of, IsIdle, IsSoon}
 use Rattle.sm_registers.specs.Rules.{current_act}
 use Rattle.sm_registers.proofs.Ticks.{op_now, effect_now, in_delay, at_rest, stalled_is}
-use Rattle.sm_registers.proofs.Calm.{IsStill, delay_counts, late_stall_waits, still_effect}
+use Rattle.sm_registers.proofs.Calm.{delay_counts, late_stall_waits}
+use Rattle.sm_registers.proofs.Effects.{does}
 
 -- the test of a tick of an instruction, by whether it had begun, stalls and takes a word
 abbrev stirs_by : (begun stalled take : Bool) → Bool
@@ -39,11 +40,10 @@ late_from false stalled take h = cc
 
 -- a late stall takes a word only by a refill
 takes_late :
-    (s : MachineSetup) (q : Queues) (r : Registers) (delay : ℕ) (e : Effect) → IsStill r e → e.stalled ≡ true
+    (s : MachineSetup) (q : Queues) (r : Registers) (delay : ℕ) (e : Effect) → e ≡ record (stall r) { sticky = e.sticky }
     → (e.take || refills s q (after_effect delay s r e)) ≡ refills s q r
 unfolding after_effect
-takes_late s q r delay e still stalled =
-    ap (λ x. x.take || refills s q (after_effect delay s r x)) (still.same stalled)
+takes_late s q r delay e still = ap (λ x. x.take || refills s q (after_effect delay s r x)) still
 
 -- the tick of a delay, and that of a stall, as one that only counts and waits
 calm_counts :
@@ -77,11 +77,11 @@ pub calm_from :
 calm_from s v q r none h =
     let e : Effect = effect_now s v q r in
     let parts = late_from r.begun e.stalled _ (sym (stirs_word s v q r none) ∙ h) in
-    let still = still_effect (current_act v r) s v q r parts.0 in
+    let still = (does (current_act v r) s v q r).still parts.0 parts.1.0 in
     record {
       begun = parts.0;
       stalled = parts.1.0;
-      unfilled = sym (takes_late s q r (op_now s v r).delay e still parts.1.0) ∙ parts.1.1;
+      unfilled = sym (takes_late s q r (op_now s v r).delay e still) ∙ parts.1.1;
     }
 
 calm_word :
@@ -187,7 +187,7 @@ fills s v q r h = elim (cases_lt 0 r.delay) [
   | inl left ↦ ap (λ x. stirs x.1) (in_delay s v q r left) ∙ h
   | inr none ↦ stirs_word s v q r (omega arith)
       ∙ filled_by r.begun _ _ (λ begun stalled.
-      takes_late s q r (op_now s v r).delay (effect_now s v q r) (still_effect (current_act v r) s v q r begun) stalled ∙ h)
+      takes_late s q r (op_now s v r).delay (effect_now s v q r) ((does (current_act v r) s v q r).still begun stalled) ∙ h)
 ]
 
 idle_by :

@@ -1,14 +1,6 @@
 -- That a word that a tick takes is in the OSR after it, and that a word that it gives was all that the ISR held.
-use Rattle.std.proofs.Common.{◌≡◌, ℕ, ◌-◌, ◌≤◌, nat_lt, nat_le, Bool, true, false, cond, ◌&&◌, ◌||◌, Option, Some, None, is_some, refl, sym, ap, subst, ◌∙◌, rules, arith}
+use Rattle.std.proofs.Common.{◌≡◌, ℕ, ◌-◌, ◌≤◌, nat_lt, nat_le, Bool, true, false, cond, ◌&&◌, ◌||◌, Option, Some, None, is_some, refl, sym, ap, subst, ◌∙◌, arith}
 use Rattle.std.proofs.lemmas.Bool.Decides.{nat_tests}
-use Rattle.pio_encode.specs.declared.act.Act.{Act}
-use Rattle.pio_encode.specs.declared.act.Act.TheVariants.{Jmp, Wait, In, Out, Push, Pull, Mov, Irq, Set, Nothing}
-use Rattle.pio_encode.specs.declared.act.OutDestination.{OutDestination}
-use Rattle.pio_encode.specs.declared.act.OutDestination.TheVariants as out_destination
-use Rattle.pio_encode.specs.declared.act.MovDestination.{MovDestination}
-use Rattle.pio_encode.specs.declared.act.MovDestination.TheVariants as mov_destination
-use Rattle.pio_encode.specs.declared.act.SetDestination.{SetDestination}
-use Rattle.pio_encode.specs.declared.act.SetDestination.TheVariants as set_destination
 use Rattle.pio_encode.specs.declared.op.Op.{Op}
 use Rattle.pio_encode.specs.Word.{act_of, reading_of}
 use Rattle.pin_matrix.specs.declared.machine.MachineSetup.{MachineSetup}
@@ -16,79 +8,9 @@ use Rattle.sm_registers.specs.declared.registers.Registers.{Registers}
 use Rattle.sm_registers.specs.View.{View}
 use Rattle.sm_registers.specs.Queues.{Queues}
 use Rattle.sm_registers.specs.Laws.{TakesInto, GivesAll}
-use Rattle.sm_registers.specs.Effects.{Effect, is_due, osr_filled, jmp_effect, wait_effect, in_effect, autopushed, out_to, out_effect, push_effect, pulled, pull_effect, mov_to, mov_effect, irq_effect, set_effect, effect_of}
+use Rattle.sm_registers.specs.Effects.{Effect, is_due, osr_filled, effect_of}
 use Rattle.sm_registers.specs.Tick.{osr_filled_from, refilled, current_word, after_effect, refills, tick_delay, tick_by, tick_word, tick_of}
-
--- a word that an effect takes fills the OSR, and one that it gives leaves an empty ISR
-pub record IsTidyEffect (q : Queues) (e : Effect) : Type 0 where
-  pub osr : e.take ≡ true → (w : ℕ) → q.front ≡ Some w → e.registers.osr ≡ w
-  pub out_count : e.take ≡ true → e.registers.out_count ≡ 0
-  pub isr : is_some e.word ≡ true → e.registers.isr ≡ 0
-  pub in_count : is_some e.word ≡ true → e.registers.in_count ≡ 0
-
-tidy_none : (q : Queues) (e : Effect) → e.take ≡ false → is_some e.word ≡ false → IsTidyEffect q e
-tidy_none q e h k = record { osr = λ t w f. cc; out_count = λ t. cc; isr = λ t. cc; in_count = λ t. cc }
-
-tidy_if : (q : Queues) (b : Bool) (x y : Effect) → IsTidyEffect q x → IsTidyEffect q y → IsTidyEffect q (cond b x y)
-tidy_if q true x y h k = h
-tidy_if q false x y h k = k
-
-tidy_word : (q : Queues) (e : Effect) → e.take ≡ false → e.registers.isr ≡ 0 → e.registers.in_count ≡ 0 → IsTidyEffect q e
-tidy_word q e h k l = record { osr = λ t w f. cc; out_count = λ t. cc; isr = λ t. k; in_count = λ t. l }
-
-tidy_autopushed : (s : MachineSetup) (q : Queues) (r : Registers) → IsTidyEffect q (autopushed s q r)
-tidy_autopushed s q r = search (rules, tidy_if, tidy_none, tidy_word)
-
-tidy_out_to : (d : OutDestination) (value n : ℕ) (s : MachineSetup) (q : Queues) (r : Registers) → IsTidyEffect q (out_to d value n s r)
-tidy_out_to out_destination.Pins value n s q r = tidy_none q _ refl refl
-tidy_out_to out_destination.X value n s q r = tidy_none q _ refl refl
-tidy_out_to out_destination.Y value n s q r = tidy_none q _ refl refl
-tidy_out_to out_destination.Null value n s q r = tidy_none q _ refl refl
-tidy_out_to out_destination.Pindirs value n s q r = tidy_none q _ refl refl
-tidy_out_to out_destination.Pc value n s q r = tidy_none q _ refl refl
-tidy_out_to out_destination.Isr value n s q r = tidy_none q _ refl refl
-tidy_out_to out_destination.Exec value n s q r = tidy_none q _ refl refl
-
-tidy_mov_to : (d : MovDestination) (value : ℕ) (s : MachineSetup) (q : Queues) (r : Registers) → IsTidyEffect q (mov_to d value s r)
-tidy_mov_to mov_destination.Pins value s q r = tidy_none q _ refl refl
-tidy_mov_to mov_destination.X value s q r = tidy_none q _ refl refl
-tidy_mov_to mov_destination.Y value s q r = tidy_none q _ refl refl
-tidy_mov_to mov_destination.Exec value s q r = tidy_none q _ refl refl
-tidy_mov_to mov_destination.Pc value s q r = tidy_none q _ refl refl
-tidy_mov_to mov_destination.Isr value s q r = tidy_none q _ refl refl
-tidy_mov_to mov_destination.Osr value s q r = tidy_none q _ refl refl
-
-tidy_set : (d : SetDestination) (value : ℕ) (s : MachineSetup) (q : Queues) (r : Registers) → IsTidyEffect q (set_effect d value s r)
-unfolding set_effect
-tidy_set set_destination.Pins value s q r = tidy_none q _ refl refl
-tidy_set set_destination.X value s q r = tidy_none q _ refl refl
-tidy_set set_destination.Y value s q r = tidy_none q _ refl refl
-tidy_set set_destination.Pindirs value s q r = tidy_none q _ refl refl
-
-same_word : (a b w : ℕ) → Some a ≡ Some w → a ≡ w
-same_word a b w h = cc
-
-tidy_pulled : (q : Queues) (front : Option ℕ) (block : Bool) (r : Registers) → q.front ≡ front → IsTidyEffect q (pulled front block r)
-tidy_pulled q None block r h = search (rules, tidy_if, tidy_none)
-tidy_pulled q (Some word) block r h = record {
-  osr = λ t w f. same_word word word w (sym h ∙ f);
-  out_count = λ t. refl;
-  isr = λ t. cc;
-  in_count = λ t. cc;
-}
-
-pub tidy_effect : (a : Act) (s : MachineSetup) (v : View) (q : Queues) (r : Registers) → IsTidyEffect q (effect_of a s v q r)
-unfolding effect_of jmp_effect wait_effect in_effect out_effect push_effect pull_effect mov_effect irq_effect
-tidy_effect (Jmp c a) s v q r = tidy_none q _ refl refl
-tidy_effect (Wait polarity source index) s v q r = search (rules, tidy_if, tidy_none)
-tidy_effect (In source n) s v q r = tidy_autopushed s q _
-tidy_effect (Out d n) s v q r = search (rules, tidy_if, tidy_none, tidy_out_to)
-tidy_effect (Push if_full block) s v q r = search (rules, tidy_if, tidy_none, tidy_word) depth 20
-tidy_effect (Pull if_empty block) s v q r = search (rules, tidy_if, tidy_none, tidy_pulled)
-tidy_effect (Mov d o source) s v q r = tidy_mov_to d _ s q r
-tidy_effect (Irq clear waits index) s v q r = search (rules, tidy_if, tidy_none) depth 20
-tidy_effect (Set d value) s v q r = tidy_set d value s q r
-tidy_effect Nothing s v q r = tidy_none q _ refl refl
+use Rattle.sm_registers.proofs.Effects.{does}
 
 -- what comes after an effect leaves the shift registers
 pub record SameShifts (x y : Registers) : Type 0 where
@@ -155,12 +77,12 @@ unfolding tick_of tick_delay tick_word tick_by reading_of
 word_taken s v q r w f =
     let word : ℕ = current_word v r in
     let e : Effect = effect_of (act_of word) s v q r in
-    let tidy : IsTidyEffect q e = tidy_effect (act_of word) s v q r in
+    let does = does (act_of word) s v q r in
     let op : Op = reading_of word s.side_rule in
     let kept : SameShifts (after_effect op.delay s r e) e.registers = after_keeps op.delay s r e in
     elim (nat_lt 0 r.delay) as (λ b. (cond b (tick_delay s q r) (tick_word (reading_of word s.side_rule) s v q r)).1.take ≡ true → TakesInto w (cond b (tick_delay s q r) (tick_word (reading_of word s.side_rule) s v q r)).0) [
       | true ↦ taken s q (record r { delay = r.delay - 1 }) false w f (λ t. cc) (λ t. cc)
-      | false ↦ taken s q (after_effect op.delay s r e) e.take w f (λ t. kept.osr ∙ tidy.osr t w f) (λ t. kept.out_count ∙ tidy.out_count t)
+      | false ↦ taken s q (after_effect op.delay s r e) e.take w f (λ t. kept.osr ∙ does.osr t w f) (λ t. kept.out_count ∙ does.full t)
     ]
 
 given : (s : MachineSetup) (q : Queues) (x : Registers) → x.isr ≡ 0 → x.in_count ≡ 0 → GivesAll (refilled s q x)
@@ -175,10 +97,10 @@ unfolding tick_of tick_delay tick_word tick_by reading_of
 word_given s v q r =
     let word : ℕ = current_word v r in
     let e : Effect = effect_of (act_of word) s v q r in
-    let tidy : IsTidyEffect q e = tidy_effect (act_of word) s v q r in
+    let does = does (act_of word) s v q r in
     let op : Op = reading_of word s.side_rule in
     let kept : SameShifts (after_effect op.delay s r e) e.registers = after_keeps op.delay s r e in
     elim (nat_lt 0 r.delay) as (λ b. is_some (cond b (tick_delay s q r) (tick_word (reading_of word s.side_rule) s v q r)).1.word ≡ true → GivesAll (cond b (tick_delay s q r) (tick_word (reading_of word s.side_rule) s v q r)).0) [
       | true ↦ (λ t. cc)
-      | false ↦ (λ t. given s q (after_effect op.delay s r e) (kept.isr ∙ tidy.isr t) (kept.in_count ∙ tidy.in_count t))
+      | false ↦ (λ t. given s q (after_effect op.delay s r e) (kept.isr ∙ does.isr t) (kept.in_count ∙ does.in_count t))
     ]

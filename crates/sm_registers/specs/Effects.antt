@@ -88,14 +88,9 @@ fallen x = (x + (2 ^ 32 - 1)) % 2 ^ 32
 
 -- JMP `x--` and `y--` count down, taken or not (RP2040 Datasheet, section 3.4.2)
 abbrev pub counted_down : Condition → Registers → Registers
-counted_down condition.Always r = r
-counted_down condition.XZero r = r
 counted_down condition.XDecrement r = record r { x = fallen r.x }
-counted_down condition.YZero r = r
 counted_down condition.YDecrement r = record r { y = fallen r.y }
-counted_down condition.XNotY r = r
-counted_down condition.Pin r = r
-counted_down condition.OsrNotEmpty r = r
+counted_down c r = r
 
 -- when a JMP is taken, by X and Y before the count; `!osre` looks at the pull threshold
 abbrev pub jumps : Condition → MachineSetup → View → Registers → Bool
@@ -121,9 +116,8 @@ waited_bit wait_source.Irq index s v = is_up v.flags.up (flag_of index s.id)
 
 -- the flag that a WAIT lowers as it finishes: that of `wait 1 irq` alone
 abbrev pub waited_flag : (polarity : Bool) → WaitSource → ℕ → MachineSetup → ℕ
-waited_flag polarity wait_source.Gpio index s = 0
-waited_flag polarity wait_source.Pin index s = 0
 waited_flag polarity wait_source.Irq index s = if polarity then 2 ^ flag_of index s.id else 0
+waited_flag polarity source index s = 0
 
 -- the bit has the polarity
 abbrev pub has_polarity : (polarity bit : Bool) → Bool

@@ -30,29 +30,17 @@ effect_by r i (Executes word) = wanting i (record (quiet r) { pending = Some wor
 -- an instruction that ends so stalls
 abbrev pub end_stalls : End → Bool
 end_stalls Stalls = true
-end_stalls GoesOn = false
-end_stalls (Levels write) = false
-end_stalls (Directions write) = false
-end_stalls (Jumps address) = false
-end_stalls (Executes word) = false
+end_stalls end = false
 
 -- its own write to levels
 abbrev pub end_level : End → ℕ × ℕ
-end_level Stalls = (0, 0)
-end_level GoesOn = (0, 0)
 end_level (Levels write) = write
-end_level (Directions write) = (0, 0)
-end_level (Jumps address) = (0, 0)
-end_level (Executes word) = (0, 0)
+end_level end = (0, 0)
 
 -- and to directions
 abbrev pub end_direction : End → ℕ × ℕ
-end_direction Stalls = (0, 0)
-end_direction GoesOn = (0, 0)
-end_direction (Levels write) = (0, 0)
 end_direction (Directions write) = write
-end_direction (Jumps address) = (0, 0)
-end_direction (Executes word) = (0, 0)
+end_direction end = (0, 0)
 
 -- the pins after it
 abbrev pub written_end : End → Outputs → Outputs

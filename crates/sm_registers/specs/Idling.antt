@@ -22,7 +22,7 @@ use Rattle.sm_registers.specs.declared.idle.Idle.{Idle}
 use Rattle.sm_registers.specs.declared.idle.Idle.TheVariants.{Ticks, Never}
 use Rattle.sm_registers.specs.declared.intent.Intent.{Intent}
 use Rattle.sm_registers.specs.declared.intent.Kind.{Kind}
-use Rattle.sm_registers.specs.declared.intent.Kind.TheVariants.{Off, First, Late, Delay}
+use Rattle.sm_registers.specs.declared.intent.Kind.TheVariants.{First, Late}
 use Rattle.sm_registers.specs.Intents.{no_intent}
 use Rattle.sm_registers.specs.declared.registers.Registers.{Registers}
 use Rattle.sm_registers.specs.View.{View}
@@ -33,17 +33,14 @@ use Rattle.sm_registers.specs.Tick.{current_word, refills, tick_of}
 
 -- the tick is the first of its instruction
 abbrev pub begins : Kind → Bool
-begins Off = false
 begins First = true
-begins Late = false
-begins Delay = false
+begins kind = false
 
 -- the tick is the last of its instruction, which doesn't stall in it
 abbrev pub finishes : Kind → (stalled : Bool) → Bool
-finishes Off stalled = false
 finishes First stalled = not stalled
 finishes Late stalled = not stalled
-finishes Delay stalled = false
+finishes kind stalled = false
 
 -- It begins or finishes an instruction, or refills the OSR. A PULL that takes a word finishes, so that `take` adds only the
 -- refills (choice of this profile: which ticks stir).

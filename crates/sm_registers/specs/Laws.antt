@@ -9,7 +9,7 @@
 --   IsAlike          a tick reads the same in two views
 use Rattle.std.specs.Prelude.{◌≡◌, ℕ, ◌+◌, ◌/◌, ◌%◌, ◌^◌, ◌<◌, Bool, true, false, not, if◌then◌else◌, IfSome, is_some}
 use Rattle.pio_encode.specs.declared.act.Act.{Act}
-use Rattle.pio_encode.specs.declared.act.Act.TheVariants.{Jmp, Wait, In, Out, Push, Pull, Mov, Irq, Set, Nothing}
+use Rattle.pio_encode.specs.declared.act.Act.TheVariants.{Jmp, Wait, In, Mov, Irq}
 use Rattle.pio_encode.specs.declared.act.Condition.TheVariants as condition
 use Rattle.pio_encode.specs.declared.act.Condition.{Condition}
 use Rattle.pio_encode.specs.declared.act.WaitSource.{WaitSource}
@@ -70,14 +70,8 @@ bit_of w i = w / 2 ^ i % 2
 
 -- what a JMP reads: its pin, under the condition `pin`
 abbrev pub jmp_reads : Condition → MachineSetup → View → ℕ
-jmp_reads condition.Always s v = 0
-jmp_reads condition.XZero s v = 0
-jmp_reads condition.XDecrement s v = 0
-jmp_reads condition.YZero s v = 0
-jmp_reads condition.YDecrement s v = 0
-jmp_reads condition.XNotY s v = 0
 jmp_reads condition.Pin s v = bit_of v.seen s.jmp_pin
-jmp_reads condition.OsrNotEmpty s v = 0
+jmp_reads c s v = 0
 
 -- what a WAIT reads: its pin or its flag
 abbrev pub wait_reads : WaitSource → ℕ → MachineSetup → View → ℕ
@@ -88,21 +82,12 @@ wait_reads wait_source.Irq index s v = bit_of v.flags.up (flag_of index s.id)
 -- what an IN reads: n pins, in its first tick
 abbrev pub in_reads : InSource → ℕ → MachineSetup → View → Registers → ℕ
 in_reads in_source.Pins n s v r = if r.begun then 0 else rotated_right v.seen s.in_base % 2 ^ n
-in_reads in_source.X n s v r = 0
-in_reads in_source.Y n s v r = 0
-in_reads in_source.Null n s v r = 0
-in_reads in_source.Isr n s v r = 0
-in_reads in_source.Osr n s v r = 0
+in_reads source n s v r = 0
 
 -- what a MOV reads: all pins, where they are its source
 abbrev pub mov_reads : MovSource → MachineSetup → View → ℕ
 mov_reads mov_source.Pins s v = rotated_right v.seen s.in_base
-mov_reads mov_source.X s v = 0
-mov_reads mov_source.Y s v = 0
-mov_reads mov_source.Null s v = 0
-mov_reads mov_source.Status s v = 0
-mov_reads mov_source.Isr s v = 0
-mov_reads mov_source.Osr s v = 0
+mov_reads source s v = 0
 
 -- what an IRQ reads: its flag, where it waits and has begun
 abbrev pub irq_reads : (clear waits begun : Bool) → ℕ → MachineSetup → View → ℕ
@@ -114,13 +99,9 @@ abbrev pub read_of : Act → MachineSetup → Registers → View → ℕ
 read_of (Jmp c address) s r v = jmp_reads c s v
 read_of (Wait polarity source index) s r v = wait_reads source index s v
 read_of (In source n) s r v = in_reads source n s v r
-read_of (Out destination n) s r v = 0
-read_of (Push if_full block) s r v = 0
-read_of (Pull if_empty block) s r v = 0
 read_of (Mov destination operation source) s r v = mov_reads source s v
 read_of (Irq clear waits index) s r v = irq_reads clear waits r.begun index s v
-read_of (Set destination value) s r v = 0
-read_of Nothing s r v = 0
+read_of act s r v = 0
 
 -- a tick reads the same in two views: the same word, and what its act reads
 pub record IsAlike (s : MachineSetup) (r : Registers) (v w : View) : Type 0 where

@@ -34,12 +34,10 @@ side_of s (Some value) = if s.side_rule.pindirs then Directions (writes_of s.sid
 
 -- no pin is written where the write isn't one to levels
 abbrev pub side_level : Side → ℕ × ℕ
-side_level Nothing = (0, 0)
 side_level (Levels write) = write
-side_level (Directions write) = (0, 0)
+side_level side = (0, 0)
 
 -- the same of directions
 abbrev pub side_direction : Side → ℕ × ℕ
-side_direction Nothing = (0, 0)
-side_direction (Levels write) = (0, 0)
 side_direction (Directions write) = write
+side_direction side = (0, 0)

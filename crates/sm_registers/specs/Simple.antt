@@ -16,7 +16,7 @@ use Rattle.sm_registers.specs.declared.registers.Registers.{Registers}
 use Rattle.sm_registers.specs.View.{View}
 use Rattle.sm_registers.specs.declared.outputs.Outputs.{Outputs}
 use Rattle.sm_registers.specs.declared.simple.Tried.{Tried}
-use Rattle.sm_registers.specs.declared.simple.Tried.TheVariants.{NotSimple, Done, DoneReady}
+use Rattle.sm_registers.specs.declared.simple.Tried.TheVariants.{NotSimple, DoneReady}
 use Rattle.sm_registers.specs.Idling.{is_unmet}
 use Rattle.sm_registers.specs.Intents.{no_wants, wants_of, written_by}
 use Rattle.sm_registers.specs.State.{MachineState, queues_of}
@@ -61,11 +61,9 @@ pub record MakesTick (v : View) (m after : MachineState) (o put : Outputs) : Typ
 -- it was done
 abbrev pub is_done : Tried → Bool
 is_done NotSimple = false
-is_done Done = true
-is_done DoneReady = true
+is_done tried = true
 
 -- it was done, and the next one is ready
 abbrev pub leaves_ready : Tried → Bool
-leaves_ready NotSimple = false
-leaves_ready Done = false
 leaves_ready DoneReady = true
+leaves_ready tried = false

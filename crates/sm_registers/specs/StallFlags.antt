@@ -5,7 +5,7 @@
 --   IsKnown      those of a machine
 use Rattle.std.specs.Prelude.{◌≡◌, ℕ, nat_le, true, bit_or}
 use Rattle.pio_encode.specs.declared.act.Act.{Act}
-use Rattle.pio_encode.specs.declared.act.Act.TheVariants.{Jmp, Wait, In, Out, Push, Pull, Mov, Irq, Set, Nothing}
+use Rattle.pio_encode.specs.declared.act.Act.TheVariants.{In, Out, Push, Pull}
 use Rattle.pin_matrix.specs.declared.machine.MachineSetup.{MachineSetup}
 use Rattle.sm_registers.specs.declared.sticky.TheConstants.{TX_STALL, RX_STALL}
 use Rattle.sm_registers.specs.declared.registers.Registers.{Registers}
@@ -18,16 +18,11 @@ AreUp flags sticky = bit_or flags sticky ≡ sticky
 
 -- The flags that an instruction raised as it stalled before. An OUT that has bits to shift out again raises none.
 abbrev pub IsToldAct : Act → MachineSetup → (out_count sticky : ℕ) → Type 0
-IsToldAct (Jmp c address) s out_count sticky = Unit
-IsToldAct (Wait polarity source index) s out_count sticky = Unit
 IsToldAct (In source n) s out_count sticky = AreUp RX_STALL sticky
 IsToldAct (Out destination n) s out_count sticky = nat_le s.pull_threshold out_count ≡ true → AreUp TX_STALL sticky
 IsToldAct (Push if_full block) s out_count sticky = AreUp RX_STALL sticky
 IsToldAct (Pull if_empty block) s out_count sticky = AreUp TX_STALL sticky
-IsToldAct (Mov destination operation source) s out_count sticky = Unit
-IsToldAct (Irq clear waits index) s out_count sticky = Unit
-IsToldAct (Set destination value) s out_count sticky = Unit
-IsToldAct Nothing s out_count sticky = Unit
+IsToldAct act s out_count sticky = Unit
 
 -- where its instruction stalled before, the flags of that stall are up
 abbrev pub IsKnown : View → MachineSetup → Registers → (sticky : ℕ) → Type 0

@@ -16,7 +16,7 @@ use Rattle.sm_registers.specs.Rules.{current_act}
 use Rattle.sm_registers.specs.State.{queues_of}
 use Rattle.sm_registers.specs.Tick.{tick_by, tick_delay, tick_of}
 use Rattle.sm_registers.specs.View.{View}
-use Rattle.sm_registers.proofs.Calm.{still_effect}
+use Rattle.sm_registers.proofs.Effects.{does}
 use Rattle.sm_registers.proofs.Ticks.{at_rest, in_delay, rest_delay, stalled_is, stuck}
 use Rattle.dreq_pacing.specs.declared.due.Due.{Due}
 use Rattle.block_core.specs.Inside.{is_of_an_instruction, machine_inside}
@@ -103,7 +103,7 @@ stalls : (s : MachineSetup) (v : View) (q : Queues) (r : Registers) → r.delay 
 stalls s v q r left begun ends =
     let kind : (tick_of s v q r).1.kind ≡ Late = word_kind s v q r left ∙ ap (λ (b : Bool). cond {A = Kind} b Late First) begun in
     let stalled : (tick_of s v q r).1.stalled ≡ true = not_not _ (ap (λ (k : Kind). finishes k (tick_of s v q r).1.stalled) (sym kind) ∙ ends) in
-    let same = (still_effect (current_act v r) s v q r begun).same (sym (stalled_is s v q r left) ∙ stalled) in
+    let same = (does (current_act v r) s v q r).still begun (sym (stalled_is s v q r left) ∙ stalled) in
     record {
       pc = (stuck s v q r left stalled).pc ∙ ap (λ (e : Effect). e.registers.pc) same;
       none = in_a_wait r begun;
