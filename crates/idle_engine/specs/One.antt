@@ -15,7 +15,7 @@ abbrev pub one : RunKind Hosted (List Line) Sample
 one = record {
   in_clock = λ h n. h.run.clock ≡ n;
   acts = λ lines h n. acts_in lines n (requests_of h.run.state) h.transfers;
-  moves = λ h. moves_on quiet h.run;
+  moves_on = λ h. moves_on quiet h.run;
   stirs = stirs_in;
   next = hosted_next;
   quiet_next = λ h. record h { run = next quiet h.run };

@@ -38,7 +38,7 @@ abbrev pub one_conduct : RunKind Conducting (List Line) Conduct
 one_conduct = record {
   in_clock = λ h n. one.in_clock h.hosted n;
   acts = λ lines h n. one.acts lines h.hosted n;
-  moves = λ h. one.moves h.hosted;
+  moves_on = λ h. one.moves_on h.hosted;
   stirs = λ lines h. one.stirs lines h.hosted;
   next = conducting_next;
   quiet_next = conducting_quiet;

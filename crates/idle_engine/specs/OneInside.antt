@@ -12,7 +12,7 @@ abbrev pub one_inside : RunKind Hosted (List Line) Inside
 one_inside = record {
   in_clock = one.in_clock;
   acts = one.acts;
-  moves = one.moves;
+  moves_on = one.moves_on;
   stirs = one.stirs;
   next = one.next;
   quiet_next = one.quiet_next;

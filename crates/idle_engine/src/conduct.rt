@@ -50,11 +50,7 @@ impl<'a, F: Fifo> Runs<Conduct, HostPorts<'a>> for Conducted<F> {
     #[inline(always)]
     fn quiet_clock(&mut self, _ports: &HostPorts<'a>, clock: u64) -> News {
         unused_fifos_ask_as_before();
-        let (fifos, noted) = Conducted::quiet_clock(self, clock);
-        News {
-            fifos,
-            sample: noted,
-        }
+        Conducted::quiet_clock(self, clock)
     }
 
     #[cold]

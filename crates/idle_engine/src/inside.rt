@@ -50,7 +50,7 @@ impl<'a, F: Fifo> Runs<Inside, HostPorts<'a>> for Block<F> {
         let news = <Self as Runs<Sample, HostPorts<'a>>>::quiet_clock(self, ports, clock);
         News {
             fifos: news.fifos,
-            sample: true,
+            shown: true,
         }
     }
 

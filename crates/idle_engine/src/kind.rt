@@ -57,7 +57,7 @@ pub(crate) trait Runs<V, P> {
         ensures run { hosted self.new ports.now ≡ kind.quiet_next (hosted self.old ports.now) }
         ensures asks { result.fifos ≡ false → (l : Lines) (n : ℕ)
             → kind.acts l (hosted self.new ports.now) n ≡ kind.acts l (hosted self.old ports.now) n }
-        ensures sample { result.sample ≡ false
+        ensures shown { result.shown ≡ false
             → kind.shown (hosted self.new ports.now) ≡ kind.shown (hosted self.old ports.now) }
         ensures calls { calls self.new ≡ calls self.old + 1 };
 
@@ -70,17 +70,17 @@ pub(crate) trait Runs<V, P> {
 
     /// Whether it moves on in the present clock whatever its machines see, if the system does nothing in it.
     fn begins_or_changes(&self, ports: &P) -> bool
-        ensures { result ≡ true → kind.moves (hosted self.now ports.now) ≡ true };
+        ensures { result ≡ true → kind.moves_on (hosted self.now ports.now) ≡ true };
 
     /// How many clocks go by before the first in which it moves on, if the system does nothing, up to the most.
     fn next_stir(&self, ports: &P, most: u64) -> u64
-        ensures { IsUntil (λ n. kind.moves (kind.quiet_from (hosted self.now ports.now) n)) most 0 result };
+        ensures { IsUntil (λ n. kind.moves_on (kind.quiet_from (hosted self.now ports.now) n)) most 0 result };
 
     /// So many clocks at once, in none of which it moves on, and in which the system does nothing.
     fn leap(&mut self, ports: &P, clock: u64, clocks: u64)
         requires clock { kind.in_clock (hosted self.old ports.now) clock }
         requires within { clock + clocks ≤ 2 ^ 40 }
-        requires rests { (n : ℕ) → n < clocks → kind.moves (kind.quiet_from (hosted self.old ports.now) n) ≡ false }
+        requires rests { (n : ℕ) → n < clocks → kind.moves_on (kind.quiet_from (hosted self.old ports.now) n) ≡ false }
         ensures run { hosted self.new ports.now ≡ kind.quiet_from (hosted self.old ports.now) clocks }
         ensures calm { IsCalm kind (hosted self.old ports.now) clocks }
         ensures calls { calls self.new ≡ calls self.old };

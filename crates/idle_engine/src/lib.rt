@@ -8,7 +8,7 @@ mod kind;
 mod laws;
 mod one;
 mod simulation;
-mod two;
+mod twin;
 
 pub use laws::{
     a_stopped_inspection_leaves_a_first_part, a_stopped_pair_leaves_a_first_part,

@@ -183,8 +183,8 @@ fn run<V: Drop, P, R: Runs<V, P>, T: Trace<V>, L: Ledger>(
     let mut until = runs.next_due(ports, 0, clocks);
     let mut clock = 0;
     'clocks: while clock < clocks {
-        let (rests, is_new) = step(runs, ports, clock, until, clocks);
-        until = rests;
+        let (next, is_new) = step(runs, ports, clock, until, clocks);
+        until = next;
         steps.count();
         tell(trace, clock, runs, ports, is_new | (clock == 0))?;
         clock = leap(runs, ports, clock + 1, until);

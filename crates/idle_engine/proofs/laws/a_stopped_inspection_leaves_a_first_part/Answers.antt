@@ -1,7 +1,7 @@
 use Rattle.block_core.specs.Hosted.{hosted_at}
 use Rattle.block_core.specs.Inside.{insides, inside_at}
-use Rattle.idle_engine.proofs.SampleLists.{insides-firsts}
-use Rattle.idle_engine.proofs.Stopping.{stopped}
+use Rattle.idle_engine.proofs.Courses.{insides-firsts}
+use Rattle.idle_engine.proofs.FirstParts.{stopped}
 use Rattle.idle_engine.proofs.laws.a_stopped_inspection_leaves_a_first_part.Goals as goal
 
 pub returns : goal.returns

@@ -1,6 +1,6 @@
 use Rattle.block_core.specs.HostedTwin.{twin_of, hosted_twin_at, twin_samples, twin_sample_at}
-use Rattle.idle_engine.proofs.SampleLists.{twin_samples-firsts}
-use Rattle.idle_engine.proofs.Stopping.{stopped}
+use Rattle.idle_engine.proofs.Courses.{twin_samples-firsts}
+use Rattle.idle_engine.proofs.FirstParts.{stopped}
 use Rattle.idle_engine.proofs.laws.a_stopped_pair_leaves_a_first_part.Goals as goal
 
 pub returns : goal.returns

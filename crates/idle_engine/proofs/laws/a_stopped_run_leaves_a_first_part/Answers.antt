@@ -1,6 +1,6 @@
 use Rattle.block_core.specs.Hosted.{hosted_at, samples, sample_at}
-use Rattle.idle_engine.proofs.SampleLists.{samples-firsts}
-use Rattle.idle_engine.proofs.Stopping.{stopped}
+use Rattle.idle_engine.proofs.Courses.{samples-firsts}
+use Rattle.idle_engine.proofs.FirstParts.{stopped}
 use Rattle.idle_engine.proofs.laws.a_stopped_run_leaves_a_first_part.Goals as goal
 
 pub returns : goal.returns

@@ -18,13 +18,13 @@ with_twin h t = record {
 }
 
 -- the kind of such a run (`Kinds`)
-abbrev pub two : RunKind HostedTwin (List Line × List Line) (Sample × Sample)
-two = record {
+abbrev pub twin : RunKind HostedTwin (List Line × List Line) (Sample × Sample)
+twin = record {
   in_clock = λ h n. (h.first.run.clock ≡ n) × (h.second.run.clock ≡ n);
   acts = λ lines h n.
       acts_in lines.0 n (requests_of h.first.run.state) h.first.transfers
       || acts_in lines.1 n (requests_of h.second.run.state) h.second.transfers;
-  moves = λ h. twin_moves_on quiet quiet (twin_of h);
+  moves_on = λ h. twin_moves_on quiet quiet (twin_of h);
   stirs = λ lines h. twin_stirs_in lines.0 lines.1 h;
   next = λ lines h. hosted_twin_next lines.0 lines.1 h;
   quiet_next = λ h. with_twin h (twin_next quiet quiet (twin_of h));

@@ -3,7 +3,7 @@ use Rattle.std.proofs.Common.{◌≡◌, ℕ, ◌+◌, ◌-◌, ◌≤◌, Bool,
 use Rattle.pio_edge.specs.Edge.{TakesPrefix}
 use Rattle.idle_engine.specs.Stops.{Stops, PartStays}
 use Rattle.idle_engine.specs.Kinds.{AreFirsts}
-use Rattle.idle_engine.proofs.Growing.{firsts-from}
+use Rattle.idle_engine.proofs.GrowingLists.{firsts-from}
 
 -- by whether its end was told
 by_end : {V : Type 0} (at : ℕ → V) (all : ℕ → List V) → AreFirsts at all → (before taken : Option (List ℕ)) (text : List V → Bool → List ℕ) (clocks count : ℕ) (ended : Bool) → PartStays before taken text → count ≤ clocks → (ended ≡ true → count ≡ clocks) → TakesPrefix before (text (all count) ended) taken → TakesPrefix before (text (all clocks) true) taken

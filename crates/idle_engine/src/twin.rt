@@ -1,6 +1,6 @@
 //! A run of two blocks on one set of pins, each with its stimulus.
 ghost use Rattle.std.specs.Prelude.{◌≡◌, ◌≤◌, List};
-ghost use Rattle.idle_engine.specs.Two.{two};
+ghost use Rattle.idle_engine.specs.Twin.{twin};
 
 use crate::kind::{Runs, until};
 use block_core::{
@@ -20,7 +20,7 @@ impl<'a, F: Fifo> Runs<(Sample, Sample), (HostPorts<'a>, HostPorts<'a>)> for Twi
 
     ghost Lines = { List Line × List Line };
 
-    ghost kind = { two };
+    ghost kind = { twin };
 
     ghost hosted = { λ b p. record {
       own = b.twin.own;
@@ -60,7 +60,7 @@ impl<'a, F: Fifo> Runs<(Sample, Sample), (HostPorts<'a>, HostPorts<'a>)> for Twi
         let (first, second) = Twin::quiet_clock(self);
         News {
             fifos: first.fifos | second.fifos,
-            sample: first.sample | second.sample,
+            shown: first.shown | second.shown,
         }
     }
 
