@@ -20,7 +20,6 @@ pub record Course (H V : Type 0) : Type 0 where
 --   next        one clock on
 --   quiet_next  one clock on, if the system does nothing; quiet_from some clocks on
 --   shown       what the clock before showed
---   course      the run from a state in clock 0 on, in which no transfer has begun
 pub record RunKind (H L V : Type 0) : Type 1 where
   pub in_clock : H → ℕ → Type 0
   pub acts : L → H → ℕ → Bool
@@ -30,7 +29,6 @@ pub record RunKind (H L V : Type 0) : Type 1 where
   pub quiet_next : H → H
   pub quiet_from : H → ℕ → H
   pub shown : H → V
-  pub course : L → H → Course H V
 
 -- The clocks are counted. In a clock in which the system doesn't act it does nothing, and the clock stirs where the state moves on
 -- by itself; a clock in which it acts stirs.

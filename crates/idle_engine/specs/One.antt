@@ -5,7 +5,7 @@ use Rattle.dreq_pacing.specs.Due.{quiet}
 use Rattle.dreq_pacing.specs.Ports.{acts_in}
 use Rattle.block_core.specs.declared.sample.Sample.{Sample}
 use Rattle.block_core.specs.Block.{next, run_from}
-use Rattle.block_core.specs.Hosted.{Hosted, hosted_next, hosted_at, samples}
+use Rattle.block_core.specs.Hosted.{Hosted, hosted_next}
 use Rattle.block_core.specs.Shown.{requests_of, sample_of}
 use Rattle.block_core.specs.Stirring.{moves_on, stirs_in}
 use Rattle.idle_engine.specs.Kinds.{RunKind}
@@ -21,5 +21,4 @@ one = record {
   quiet_next = λ h. record h { run = next quiet h.run };
   quiet_from = λ h n. record h { run = run_from h.run (λ c. quiet) n };
   shown = λ h. sample_of h.run.state;
-  course = λ lines h. record { at = hosted_at h.run lines; samples = samples h.run lines };
 }

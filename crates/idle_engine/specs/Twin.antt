@@ -4,7 +4,7 @@ use Rattle.dreq_pacing.specs.declared.line.Line.{Line}
 use Rattle.dreq_pacing.specs.Due.{quiet}
 use Rattle.dreq_pacing.specs.Ports.{acts_in}
 use Rattle.block_core.specs.declared.sample.Sample.{Sample}
-use Rattle.block_core.specs.HostedTwin.{HostedTwin, twin_of, hosted_twin_next, hosted_twin_at, twin_samples, twin_stirs_in}
+use Rattle.block_core.specs.HostedTwin.{HostedTwin, twin_of, hosted_twin_next, twin_stirs_in}
 use Rattle.block_core.specs.Shown.{requests_of, sample_of}
 use Rattle.block_core.specs.Twin.{TwinRun, twin_next, twin_from, twin_moves_on}
 use Rattle.idle_engine.specs.Kinds.{RunKind}
@@ -30,5 +30,4 @@ twin = record {
   quiet_next = λ h. with_twin h (twin_next quiet quiet (twin_of h));
   quiet_from = λ h n. with_twin h (twin_from (twin_of h) (λ c. quiet) (λ c. quiet) n);
   shown = λ h. (sample_of h.first.run.state, sample_of h.second.run.state);
-  course = λ lines h. record { at = hosted_twin_at (twin_of h) lines.0 lines.1; samples = twin_samples (twin_of h) lines.0 lines.1 };
 }

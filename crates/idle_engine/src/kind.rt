@@ -2,7 +2,7 @@
 ghost use Rattle.std.specs.Prelude.{◌≡◌, ℕ, ◌+◌, ◌<◌, ◌≤◌, ◌^◌, Bool, true, false};
 ghost use Rattle.std.specs.Cow.{cow_value};
 ghost use Rattle.dreq_pacing.specs.Ports.{IsFirst};
-ghost use Rattle.idle_engine.specs.Kinds.{RunKind, IsKind, IsUntil, IsCalm};
+ghost use Rattle.idle_engine.specs.Kinds.{Course, RunKind, IsKind, IsUntil, IsCalm};
 
 use block_core::News;
 use std::borrow::Cow;
@@ -20,6 +20,9 @@ pub(crate) trait Runs<V, P> {
 
     /// Its state now.
     ghost hosted: { Self → P → Hosted };
+
+    /// Its run from now on, if it is in clock 0.
+    ghost course: { Self → P → Course Hosted V };
 
     /// The lines of the ports.
     ghost lines: { P → Lines };

@@ -14,7 +14,7 @@ use std::borrow::Cow;
 impl<'a, F: Fifo> Runs<(Sample, Sample), (HostPorts<'a>, HostPorts<'a>)> for Twin<F> {
     ghost use Rattle.dreq_pacing.specs.declared.line.Line.{Line};
     ghost use Rattle.dreq_pacing.specs.Lines.{NoneBetween};
-    ghost use Rattle.block_core.specs.HostedTwin.{HostedTwin};
+    ghost use Rattle.block_core.specs.HostedTwin.{HostedTwin, hosted_twin_at, twin_samples};
 
     ghost Hosted = { HostedTwin };
 
@@ -26,6 +26,11 @@ impl<'a, F: Fifo> Runs<(Sample, Sample), (HostPorts<'a>, HostPorts<'a>)> for Twi
       own = b.twin.own;
       first = record { run = b.twin.first; transfers = p.0.transfers };
       second = record { run = b.twin.second; transfers = p.1.transfers };
+    } };
+
+    ghost course = { λ b p. record {
+      at = hosted_twin_at b.twin p.0.lines p.1.lines;
+      samples = twin_samples b.twin p.0.lines p.1.lines;
     } };
 
     ghost lines = { λ p. (p.0.lines, p.1.lines) };

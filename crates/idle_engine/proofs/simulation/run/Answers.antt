@@ -26,7 +26,7 @@ returns-in_err-begin-clause-err g c =
 
 pub clocks-init : goal.clocks-init
 clocks-init g c =
-    let course = g.R.Runs.kind.course (g.R.Runs.lines c.args.ports.now) (g.R.Runs.hosted c.args.runs.now c.args.ports.now) in
+    let course = g.R.Runs.course c.args.runs.now c.args.ports.now in
     let k = g.R.Runs.kind in
     let none = worked-none (λ n. k.stirs (g.R.Runs.lines c.args.ports.now) (course.at n)) in
     record {
@@ -54,7 +54,7 @@ step-next-requires-clause-clock g c =
 
 pub leap-clock-requires-clause-clock : goal.leap-clock-requires-clause-clock
 leap-clock-requires-clause-clock g c =
-    let course = g.R.Runs.kind.course (g.R.Runs.lines c.args.ports.now) (g.R.Runs.hosted c.args.runs.now c.args.ports.now) in
+    let course = g.R.Runs.course c.args.runs.now c.args.ports.now in
     let inv = c.clocks.invariant in
     let k = g.R.Runs.kind in
     let run = course-next k (g.R.Runs.lines c.args.ports.now) (g.R.Runs.lines c.clocks.ports) _ course inv.is_course c.clocks.clock _ _ inv.run inv.lines c.step-next.ensures.run in
@@ -62,7 +62,7 @@ leap-clock-requires-clause-clock g c =
 
 pub returns-in_err-tell-clause-err : goal.returns-in_err-tell-clause-err
 returns-in_err-tell-clause-err g c =
-    let course = g.R.Runs.kind.course (g.R.Runs.lines c.args.ports.now) (g.R.Runs.hosted c.args.runs.now c.args.ports.now) in
+    let course = g.R.Runs.course c.args.runs.now c.args.ports.now in
     let inv = c.clocks.invariant in
     let k = g.R.Runs.kind in
     let n = c.clocks.clock in
@@ -82,7 +82,7 @@ returns-in_err-tell-clause-err g c =
 
 pub returns-in_err-tell-clause-most : goal.returns-in_err-tell-clause-most
 returns-in_err-tell-clause-most g c =
-    let course = g.R.Runs.kind.course (g.R.Runs.lines c.args.ports.now) (g.R.Runs.hosted c.args.runs.now c.args.ports.now) in
+    let course = g.R.Runs.course c.args.runs.now c.args.ports.now in
     let inv = c.clocks.invariant in
     let test : ℕ → Bool = λ n. g.R.Runs.kind.stirs (g.R.Runs.lines c.args.ports.now) (course.at n) in
     let one = worked-later test c.clocks.clock (c.clocks.clock + 1) (omega arith) (λ some. inv.stirs some c.clocks-test.true) (λ j low below. absurd (omega arith)) in
@@ -90,9 +90,9 @@ returns-in_err-tell-clause-most g c =
     omega (arith, inv.worked, one, more, c.count.ensures)
 
 -- the run after the clocks that were leapt over
-run_after : (g : Over) (c : goal.After-leap-clock g) → IsAfterLeap g.R.Runs.kind (g.R.Runs.lines c.args.ports.now) (g.R.Runs.kind.course (g.R.Runs.lines c.args.ports.now) (g.R.Runs.hosted c.args.runs.now c.args.ports.now)) c.clocks.clock c.leap-clock.result c.step-next.result.0 c.args.clocks (g.R.Runs.hosted c.leap-clock.new.runs c.step-next.new.ports)
+run_after : (g : Over) (c : goal.After-leap-clock g) → IsAfterLeap g.R.Runs.kind (g.R.Runs.lines c.args.ports.now) (g.R.Runs.course c.args.runs.now c.args.ports.now) c.clocks.clock c.leap-clock.result c.step-next.result.0 c.args.clocks (g.R.Runs.hosted c.leap-clock.new.runs c.step-next.new.ports)
 run_after g c =
-    let course = g.R.Runs.kind.course (g.R.Runs.lines c.args.ports.now) (g.R.Runs.hosted c.args.runs.now c.args.ports.now) in
+    let course = g.R.Runs.course c.args.runs.now c.args.ports.now in
     let inv = c.clocks.invariant in
     let k = g.R.Runs.kind in
     let lines = g.R.Runs.lines c.args.ports.now in
@@ -103,9 +103,9 @@ run_after g c =
     c.leap-clock.ensures.from c.leap-clock.ensures.until until c.leap-clock.ensures.run c.leap-clock.ensures.calm c.leap-clock.ensures.moves_on
 
 -- what the trace was told of by then
-told_after : (g : Over) (c : goal.After-leap-clock g) → IsTold (shown_at g.R.Runs.kind (g.R.Runs.kind.course (g.R.Runs.lines c.args.ports.now) (g.R.Runs.hosted c.args.runs.now c.args.ports.now))) (g.R.Runs.kind.course (g.R.Runs.lines c.args.ports.now) (g.R.Runs.hosted c.args.runs.now c.args.ports.now)).samples c.leap-clock.result (λ s. (b : Option (List ℕ)) → g.T.Trace.ready c.args.trace.now b → g.T.Trace.holds c.tell.new.trace b s false)
+told_after : (g : Over) (c : goal.After-leap-clock g) → IsTold (shown_at g.R.Runs.kind (g.R.Runs.course c.args.runs.now c.args.ports.now)) (g.R.Runs.course c.args.runs.now c.args.ports.now).samples c.leap-clock.result (λ s. (b : Option (List ℕ)) → g.T.Trace.ready c.args.trace.now b → g.T.Trace.holds c.tell.new.trace b s false)
 told_after g c =
-    let course = g.R.Runs.kind.course (g.R.Runs.lines c.args.ports.now) (g.R.Runs.hosted c.args.runs.now c.args.ports.now) in
+    let course = g.R.Runs.course c.args.runs.now c.args.ports.now in
     let inv = c.clocks.invariant in
     let k = g.R.Runs.kind in
     let n = c.clocks.clock in
@@ -118,7 +118,7 @@ told_after g c =
 
 pub clocks-preserved : goal.clocks-preserved
 clocks-preserved g c =
-    let course = g.R.Runs.kind.course (g.R.Runs.lines c.args.ports.now) (g.R.Runs.hosted c.args.runs.now c.args.ports.now) in
+    let course = g.R.Runs.course c.args.runs.now c.args.ports.now in
     let inv = c.clocks.invariant in
     let k = g.R.Runs.kind in
     let lines = g.R.Runs.lines c.args.ports.now in
@@ -145,7 +145,7 @@ clocks-preserved g c =
 
 pub returns-clause-ok : goal.returns-clause-ok
 returns-clause-ok g c =
-    let course = g.R.Runs.kind.course (g.R.Runs.lines c.args.ports.now) (g.R.Runs.hosted c.args.runs.now c.args.ports.now) in
+    let course = g.R.Runs.course c.args.runs.now c.args.ports.now in
     let inv = c.clocks.invariant in
     let at = shown_at g.R.Runs.kind course in
     let all = course.samples in
@@ -158,7 +158,7 @@ returns-clause-ok g c =
 
 pub returns-clause-err : goal.returns-clause-err
 returns-clause-err g c =
-    let course = g.R.Runs.kind.course (g.R.Runs.lines c.args.ports.now) (g.R.Runs.hosted c.args.runs.now c.args.ports.now) in
+    let course = g.R.Runs.course c.args.runs.now c.args.ports.now in
     let inv = c.clocks.invariant in
     let at = shown_at g.R.Runs.kind course in
     let all = course.samples in
