@@ -19,7 +19,7 @@ use Rattle.block_core.specs.History.{pad_at}
 use Rattle.block_core.specs.Inside.{inside_of, is_of_an_instruction, machine_inside}
 use Rattle.block_core.specs.Leaps.{leapt, leapt_place}
 use Rattle.block_core.specs.Slots.{Slot, acted, has_tick, lined, settled_slot, slot_after, slot_intent}
-use Rattle.block_core.proofs.Leaping.{sample_leaps}
+use Rattle.block_core.proofs.NextStirs.{sample_leaps}
 
 -- no delay's count is seen
 place_leaps : (memory : List ℕ) (n : ℕ) (place : Option Slot) → option_map (machine_inside memory) (leapt_place n place) ≡ option_map (machine_inside memory) place

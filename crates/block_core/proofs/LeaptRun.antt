@@ -22,7 +22,7 @@ use Rattle.block_core.specs.Kept.{memory_alone, IsTold, AreTold}
 use Rattle.block_core.specs.Leaps.{CalmLaws, ticks_in, leapt_slot, leapt_place, leapt}
 use Rattle.block_core.specs.Slots.{Slot, lined, has_tick, acted, settled_slot, slot_after, place_after, place_intent}
 use Rattle.block_core.specs.Stirring.{moves_on, moves_on_over, machines_stir_over, pads_change_over}
-use Rattle.block_core.proofs.StallFlags.{known_in, told_leapt}
+use Rattle.block_core.proofs.PlacesTold.{known_in, told_leapt}
 
 -- nothing is done at any place
 pub no_line : (id : ℕ) → slice_index_or no_machine id false ≡ false

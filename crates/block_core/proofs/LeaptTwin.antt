@@ -9,7 +9,7 @@ use Rattle.block_core.specs.Stirring.{moves_on_over, machines_stir_over, pads_ch
 use Rattle.block_core.specs.Twin.{TwinRun, twin_pads_in, twin_next, twin_from, leapt_twin, twin_pads_change, twin_moves_on}
 use Rattle.block_core.proofs.Firsts.{first_same, first_while}
 use Rattle.block_core.proofs.LeaptRun.{leaps_once_over, leapt-once_more, leapt-none}
-use Rattle.block_core.proofs.StallFlags.{told_leapt}
+use Rattle.block_core.proofs.PlacesTold.{told_leapt}
 
 -- in both the flags of stalls are up
 pub record AreBothTold (t : TwinRun) : Type 0 where

@@ -5,12 +5,12 @@ pub mod Writes
 pub mod MergedWants
 pub mod OwnPlace
 pub mod Unused
-pub mod StallFlags
+pub mod PlacesTold
 pub mod LeaptRun
 pub mod Firsts
 pub mod LeaptSlot
 pub mod LeaptPlaces
-pub mod Leaping
+pub mod NextStirs
 pub mod Beginning
 pub mod LeaptTwin
 pub mod TwinRuns
@@ -22,6 +22,6 @@ pub mod InsideRows
 pub mod Insides
 pub mod Showing
 pub mod TickNumbers
-mod Resting
-mod Conducting
+mod DelayEnds
+mod ClocksOfNote
 mod ConductRows

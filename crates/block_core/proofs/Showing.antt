@@ -11,7 +11,7 @@ use Rattle.block_core.specs.Kept.{IsSampleOf, state_of}
 use Rattle.block_core.specs.Leaps.{leapt_place}
 use Rattle.block_core.specs.Shown.{Shows, sample_of, shown_in, with_shown}
 use Rattle.block_core.specs.Slots.{Slot, first_slot, settled_slot, slot_after, slot_intent, slot_uses_fifos}
-use Rattle.block_core.proofs.Leaping.{shown_leaps}
+use Rattle.block_core.proofs.NextStirs.{shown_leaps}
 use Rattle.block_core.proofs.Unused.{StaysQuiet}
 
 -- ports of which nobody wants anything, and no flag of which rises, stay

@@ -80,12 +80,12 @@ impl<F: Fifo> Block<F> {
         requires { self.old.run.clock < 2 ^ 40 }
         ensures run { self.new.run ≡ next quiet self.old.run }
         ensures fifos { result.fifos ≡ uses_fifos_in quiet self.old.run }
-        ensures sample { result.sample ≡ false → sample_of self.new.run.state ≡ sample_of self.old.run.state }
+        ensures shown { result.shown ≡ false → sample_of self.new.run.state ≡ sample_of self.old.run.state }
         ensures calls { self.new.calls ≡ self.old.calls + 1 }
     {
         let news = self.running.quiet_step(self.pad);
         // The pads change with the pins alone.
-        if news.sample {
+        if news.shown {
             self.pad = self.running.pads(None);
         }
         news
@@ -118,7 +118,7 @@ impl<F: Fifo> Block<F> {
         if self.running.pads_change(self.pad) {
             return Some(0);
         }
-        self.running.sooner(None, self.pad)
+        self.running.next_stir(None, self.pad)
     }
 
     /// So many clocks at once, none of which stirs, and in which the system does nothing. After each of them the block

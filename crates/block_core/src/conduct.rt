@@ -10,6 +10,7 @@ ghost use Rattle.block_core.specs.Leaps.{leapt};
 ghost use Rattle.block_core.specs.Stirring.{moves_on};
 
 use crate::block::Block;
+use crate::news::News;
 use crate::slot::Slot;
 use dreq_pacing::Due;
 use fifo_pair::Fifo;
@@ -138,17 +139,17 @@ impl<F: Fifo> Conducted<F> {
         self.last = last;
     }
 
-    /// The same, in which the system does nothing (`Block::quiet_clock`). It tells whether anything was done at a FIFO,
-    /// and whether the clock was of note.
+    /// The same, in which the system does nothing (`Block::quiet_clock`). What is shown is new where the clock is of
+    /// note.
     #[inline(always)]
-    pub fn quiet_clock(&mut self, clock: u64) -> (bool, bool)
+    pub fn quiet_clock(&mut self, clock: u64) -> News
         requires clock { self.old.worked.run.clock ≡ clock }
         requires within { clock < 2 ^ 40 }
         ensures run { self.new.worked.run ≡ next spec_quiet self.old.worked.run }
         ensures calls { self.new.worked.calls ≡ self.old.worked.calls + 1 }
         ensures last { self.new.last ≡ conduct_after spec_quiet self.old.worked.run self.old.last }
-        ensures fifos { result.0 ≡ uses_fifos_in spec_quiet self.old.worked.run }
-        ensures noted { result.1 ≡ is_noted spec_quiet self.old.worked.run }
+        ensures fifos { result.fifos ≡ uses_fifos_in spec_quiet self.old.worked.run }
+        ensures shown { result.shown ≡ is_noted spec_quiet self.old.worked.run }
     {
         let quiet = Due::quiet();
         let before = self.block.standings(&quiet);
@@ -156,7 +157,10 @@ impl<F: Fifo> Conducted<F> {
         let news = self.block.quiet_clock();
         let (noted, last) = told(&self.block, &self.last, clock, level, direction, &before);
         self.last = last;
-        (news.fifos, noted)
+        News {
+            fifos: news.fifos,
+            shown: noted,
+        }
     }
 
     /// So many clocks at once, none of which stirs, and in which the system does nothing (`Block::leap`). None of them

@@ -6,6 +6,7 @@ ghost use Rattle.block_core.specs.Leaps.{leapt_place, stirs_after};
 ghost use Rattle.block_core.specs.Stirring as spec;
 
 use crate::slot::Slot;
+use dreq_pacing::earlier;
 use fifo_pair::Fifo;
 use sm_registers::View;
 
@@ -22,7 +23,7 @@ pub(crate) fn begins_now<F: Fifo>(place: &Option<Slot<F>>) -> bool
 
 /// The least number of clocks after which a test passes or the machine of a place stirs, from that of the test alone.
 /// The machine isn't asked where the test passes at once.
-pub(crate) fn sooner<F: Fifo>(
+pub(crate) fn next_stir<F: Fifo>(
     tested: Option<u64>,
     place: &Option<Slot<F>>,
     view: &View,
@@ -33,17 +34,6 @@ pub(crate) fn sooner<F: Fifo>(
     match (tested, place) {
         (Some(0), _) | (_, None) => tested,
         (_, Some(slot)) => earlier(tested, slot.next_stir(view)),
-    }
-}
-
-/// The lesser of two numbers that may be missing.
-fn earlier(a: Option<u64>, b: Option<u64>) -> Option<u64>
-    ensures { result ≡ ports.earlier a b }
-{
-    match (a, b) {
-        (Some(m), Some(n)) => Some(if n < m { n } else { m }),
-        (None, Some(n)) => Some(n),
-        (_, None) => a,
     }
 }
 

@@ -5,6 +5,6 @@
 pub struct News {
     /// Whether a machine or the system did anything at a FIFO; else the machines ask for what they asked before.
     pub fifos: bool,
-    /// Whether the sample may be another one; else it is that of the clock before.
-    pub sample: bool,
+    /// Whether what is shown may be new; else it is what the clock before showed.
+    pub shown: bool,
 }

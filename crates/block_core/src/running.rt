@@ -17,7 +17,7 @@ ghost use Rattle.block_core.specs.Stirring as spec_stirring;
 use crate::Sample;
 use crate::conduct::{After, Standing, stands, stands_after};
 use crate::inside::{Inside, MachineInside};
-use crate::leaps::{begins_now, leap, sooner};
+use crate::leaps::{begins_now, leap, next_stir};
 use crate::merging::{Wanted, outside_after};
 use crate::place::{are_empty, inside, moved, shown, slot_of, step};
 use crate::slot::Slot;
@@ -260,15 +260,15 @@ impl<F: Fifo> Running<F> {
     /// system does nothing, from that of the test alone. No machine is asked after a test that passes at once, or a
     /// machine that stirs at once.
     #[inline(always)]
-    pub fn sooner(&self, tested: Option<u64>, pad: u32) -> Option<u64>
+    pub fn next_stir(&self, tested: Option<u64>, pad: u32) -> Option<u64>
         ensures { (test : ℕ → Bool) → IsFirst test 0 tested →
             IsFirst (λ n. test n || machines_stir_over pad quiet (leapt n self.now)) 0 result }
     {
         let view = View::new(&self.shared, pad);
-        let first = sooner(tested, &self.first, &view);
-        let second = sooner(first, &self.second, &view);
-        let third = sooner(second, &self.third, &view);
-        sooner(third, &self.fourth, &view)
+        let first = next_stir(tested, &self.first, &view);
+        let second = next_stir(first, &self.second, &view);
+        let third = next_stir(second, &self.third, &view);
+        next_stir(third, &self.fourth, &view)
     }
 
     /// So many clocks at once, in none of which a machine stirs, with these pads, and in which the system does nothing.

@@ -81,8 +81,8 @@ impl<F: Fifo> Twin<F> {
         requires { self.old.twin.first.clock < 2 ^ 40 }
         ensures twin { self.new.twin ≡ twin_next quiet quiet self.old.twin }
         ensures fifos { (result.0.fifos, result.1.fifos) ≡ twin_uses_fifos_in quiet quiet self.old.twin }
-        ensures first { result.0.sample ≡ false → sample_of self.new.twin.first.state ≡ sample_of self.old.twin.first.state }
-        ensures second { result.1.sample ≡ false → sample_of self.new.twin.second.state ≡ sample_of self.old.twin.second.state }
+        ensures first { result.0.shown ≡ false → sample_of self.new.twin.first.state ≡ sample_of self.old.twin.first.state }
+        ensures second { result.1.shown ≡ false → sample_of self.new.twin.second.state ≡ sample_of self.old.twin.second.state }
         ensures calls { self.new.calls ≡ self.old.calls + 1 }
     {
         let pad = self.pads(None);
@@ -137,8 +137,8 @@ impl<F: Fifo> Twin<F> {
         if self.pads_change(pad) {
             return Some(0);
         }
-        let first = self.first.sooner(None, pad);
-        self.second.sooner(first, pad)
+        let first = self.first.next_stir(None, pad);
+        self.second.next_stir(first, pad)
     }
 
     /// So many clocks at once, in none of which either block stirs, and in which the system does nothing. After each of

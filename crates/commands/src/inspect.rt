@@ -14,9 +14,7 @@ use command_line::RunFiles;
 use dreq_pacing::Schedule;
 use fault_lines::Fault;
 use fifo_pair::RingFifo;
-use idle_engine::{
-    a_stopped_inspection_leaves_a_first_part, few_clocks_are_worked_out, simulate_inside,
-};
+use idle_engine::{a_stopped_run_leaves_a_first_part, few_clocks_are_worked_out, simulate_inside};
 use pin_matrix::Setup;
 use pio_edge::{Shelf, Sink};
 use stages::prepare;
@@ -61,7 +59,7 @@ fn write_inspected<O: Sink, L: Ledger>(
         (inspected_text setup.now schedule.now clocks) result }
     ensures steps { steps.new ≤ steps.old + worked_in (first_run setup.now) schedule.now clocks }
 {
-    a_stopped_inspection_leaves_a_first_part();
+    a_stopped_run_leaves_a_first_part();
     failing_early_leaves_a_first_part_of_what_is_inside();
     let mut block = Block::<RingFifo>::new(alloc, setup)?;
     let mut trace = InsideVcd::new(out, configured(setup));

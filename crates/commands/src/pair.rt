@@ -11,7 +11,7 @@ use block_core::Twin;
 use command_line::PairFiles;
 use fault_lines::Fault;
 use fifo_pair::RingFifo;
-use idle_engine::{a_stopped_pair_leaves_a_first_part, few_clocks_are_worked_out, simulate_twin};
+use idle_engine::{a_stopped_run_leaves_a_first_part, few_clocks_are_worked_out, simulate_twin};
 use pio_edge::{Shelf, Sink};
 use stages::{TwoBlocks, ask_both_spans, prepare_pair};
 use std::alloc::Global;
@@ -57,7 +57,7 @@ fn write_pair<O: Sink, L: Ledger>(
     ensures steps { steps.new ≤ steps.old
         + twin_worked_in (twin_start blocks.now) blocks.now.first_lines blocks.now.second_lines clocks }
 {
-    a_stopped_pair_leaves_a_first_part();
+    a_stopped_run_leaves_a_first_part();
     failing_early_leaves_a_first_part_of_two();
     let (first, second) = (&blocks.first_lines, &blocks.second_lines);
     let mut twin = Twin::<RingFifo>::new(alloc, &blocks.first, &blocks.second, blocks.own)?;

@@ -24,6 +24,6 @@ pub use laws::{
     quiet_clocks_may_be_left_out, the_last_pin_line_counts,
 };
 pub use line::{Line, LineAct, Words};
-pub use ports::HostPorts;
+pub use ports::{HostPorts, earlier};
 pub use schedule::Schedule;
 pub use stimulus::{read_pair_stimulus, read_stimulus};

@@ -226,8 +226,8 @@ fn either(line: bool, paced: bool) -> bool
     line || paced
 }
 
-/// The earlier of two clocks.
-pub(crate) fn earlier(a: Option<u64>, b: Option<u64>) -> Option<u64>
+/// The earlier of two clocks that may be missing.
+pub fn earlier(a: Option<u64>, b: Option<u64>) -> Option<u64>
     ensures { result ≡ spec.earlier a b }
 {
     match (a, b) {

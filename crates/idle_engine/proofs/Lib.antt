@@ -1,9 +1,9 @@
-mod Growing
+mod GrowingLists
 mod RepeatedSamples
-mod OneBlock
-mod Leaping
-mod SampleLists
-mod Stopping
-mod TwoBlocks
-mod Working
-mod Conducting
+mod OneKind
+mod AfterLeaps
+mod Courses
+mod FirstParts
+mod TwinKind
+mod WorkedClocks
+mod ConductKind

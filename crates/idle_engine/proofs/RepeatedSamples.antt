@@ -4,7 +4,7 @@ use Rattle.std.proofs.lemmas.Bool.{cases_lt}
 use Rattle.std.proofs.lemmas.Bool.Decides.{nat_tests}
 use Rattle.sample_trace.specs.Told.{IsNext, held_to, told_at}
 use Rattle.idle_engine.specs.Kinds.{AreFirsts}
-use Rattle.idle_engine.proofs.Growing.{firsts-held, firsts-next, firsts-told}
+use Rattle.idle_engine.proofs.GrowingLists.{firsts-held, firsts-next, firsts-told}
 
 -- a trace told of the first clocks, after which all up to now show what the last of them shows
 held-since : {T : Type 0} (at : ℕ → T) (all : ℕ → List T) → AreFirsts at all → (last clock : ℕ) → last ≤ clock → (last ≡ 0 → clock ≡ 0) → ((k : ℕ) → last ≤ k → k < clock → at k ≡ at (last - 1)) → held_to clock (all last) ≡ all clock

@@ -15,22 +15,20 @@ pub record Course (H V : Type 0) : Type 0 where
 -- H are the states of a run with what is left of its transfers, L the lines that it runs with, and V what it shows.
 --   in_clock    the state is at the start of the clock
 --   acts        the system acts in a clock, while the machines ask for what they ask in the state
---   moves       the state moves on in its clock, if the system does nothing in it
+--   moves_on    the state moves on in its clock, if the system does nothing in it
 --   stirs       its clock stirs
 --   next        one clock on
 --   quiet_next  one clock on, if the system does nothing; quiet_from some clocks on
 --   shown       what the clock before showed
---   course      the run from a state in clock 0 on, in which no transfer has begun
 pub record RunKind (H L V : Type 0) : Type 1 where
   pub in_clock : H → ℕ → Type 0
   pub acts : L → H → ℕ → Bool
-  pub moves : H → Bool
+  pub moves_on : H → Bool
   pub stirs : L → H → Bool
   pub next : L → H → H
   pub quiet_next : H → H
   pub quiet_from : H → ℕ → H
   pub shown : H → V
-  pub course : L → H → Course H V
 
 -- The clocks are counted. In a clock in which the system doesn't act it does nothing, and the clock stirs where the state moves on
 -- by itself; a clock in which it acts stirs.
@@ -38,7 +36,7 @@ pub record IsKind {H L V : Type 0} (k : RunKind H L V) : Type 0 where
   pub later : (l : L) (h : H) (n : ℕ) → k.in_clock h n → k.in_clock (k.next l h) (n + 1)
   pub quiet : (l : L) (h : H) (n : ℕ) → k.in_clock h n → k.acts l h n ≡ false → k.next l h ≡ k.quiet_next h
   pub acting : (l : L) (h : H) (n : ℕ) → k.in_clock h n → k.acts l h n ≡ true → k.stirs l h ≡ true
-  pub moving : (l : L) (h : H) (n : ℕ) → k.in_clock h n → k.acts l h n ≡ false → k.stirs l h ≡ k.moves h
+  pub moving : (l : L) (h : H) (n : ℕ) → k.in_clock h n → k.acts l h n ≡ false → k.stirs l h ≡ k.moves_on h
   pub none : (h : H) → k.quiet_from h 0 ≡ h
   pub more : (h : H) (n : ℕ) → k.quiet_from h (suc n) ≡ k.quiet_next (k.quiet_from h n)
 
@@ -53,7 +51,7 @@ pub record IsUntil (test : ℕ → Bool) (end from until : ℕ) : Type 0 where
 pub record IsCalm {H L V : Type 0} (k : RunKind H L V) (h : H) (clocks : ℕ) : Type 0 where
   pub asks : (j : ℕ) → j ≤ clocks → (l : L) (n : ℕ) → k.acts l (k.quiet_from h j) n ≡ k.acts l h n
   pub shows : (j : ℕ) → j ≤ clocks → k.shown (k.quiet_from h j) ≡ k.shown h
-  pub rests : (j : ℕ) → j < clocks → k.moves (k.quiet_from h j) ≡ false
+  pub rests : (j : ℕ) → j < clocks → k.moves_on (k.quiet_from h j) ≡ false
 
 -- the elements of the first clocks, one a clock
 pub record AreFirsts {T : Type 0} (at : ℕ → T) (all : ℕ → List T) : Type 0 where

@@ -2,6 +2,6 @@ pub mod Stops
 pub mod Kinds
 pub mod One
 pub mod OneInside
-pub mod Two
+pub mod Twin
 pub mod Worked
 pub mod OneConduct

@@ -7,8 +7,8 @@ use Rattle.std.specs.Prelude.{ℕ, zero, suc, List}
 use Rattle.dreq_pacing.specs.declared.line.Line.{Line}
 use Rattle.dreq_pacing.specs.Due.{quiet}
 use Rattle.block_core.specs.declared.conduct.Conduct.{Conduct}
-use Rattle.block_core.specs.Conduct.{conduct_after, conduct_before, conducts}
-use Rattle.block_core.specs.Hosted.{Hosted, due_of, hosted_at, hosted_next}
+use Rattle.block_core.specs.Conduct.{conduct_after}
+use Rattle.block_core.specs.Hosted.{Hosted, due_of, hosted_next}
 use Rattle.idle_engine.specs.Kinds.{RunKind}
 use Rattle.idle_engine.specs.One.{one}
 
@@ -38,14 +38,10 @@ abbrev pub one_conduct : RunKind Conducting (List Line) Conduct
 one_conduct = record {
   in_clock = λ h n. one.in_clock h.hosted n;
   acts = λ lines h n. one.acts lines h.hosted n;
-  moves = λ h. one.moves h.hosted;
+  moves_on = λ h. one.moves_on h.hosted;
   stirs = λ lines h. one.stirs lines h.hosted;
   next = conducting_next;
   quiet_next = conducting_quiet;
   quiet_from = conducting_from;
   shown = λ h. h.last;
-  course = λ lines h. let start = h.hosted.run in record {
-    at = λ n. record { hosted = hosted_at start lines n; last = conduct_before start lines n };
-    samples = conducts start lines;
-  };
 }

@@ -2,8 +2,8 @@
 use Rattle.std.specs.Prelude.{List}
 use Rattle.dreq_pacing.specs.declared.line.Line.{Line}
 use Rattle.block_core.specs.declared.inside.Inside.{Inside}
-use Rattle.block_core.specs.Hosted.{Hosted, hosted_at}
-use Rattle.block_core.specs.Inside.{inside_of, insides}
+use Rattle.block_core.specs.Hosted.{Hosted}
+use Rattle.block_core.specs.Inside.{inside_of}
 use Rattle.idle_engine.specs.Kinds.{RunKind}
 use Rattle.idle_engine.specs.One.{one}
 
@@ -12,11 +12,10 @@ abbrev pub one_inside : RunKind Hosted (List Line) Inside
 one_inside = record {
   in_clock = one.in_clock;
   acts = one.acts;
-  moves = one.moves;
+  moves_on = one.moves_on;
   stirs = one.stirs;
   next = one.next;
   quiet_next = one.quiet_next;
   quiet_from = one.quiet_from;
   shown = λ h. inside_of h.run;
-  course = λ lines h. record { at = hosted_at h.run lines; samples = insides h.run lines };
 }

@@ -25,7 +25,7 @@ pub(crate) fn step<V, P, R: Runs<V, P>>(
     ensures lines { R.lines ports.new ≡ R.lines ports.old }
     ensures may_ask { R.may_ask ports.new (clock + 1) }
     ensures until { IsUntil (R.kind.acts (R.lines ports.new) (R.hosted runs.new ports.new)) end (clock + 1) result.0 }
-    ensures sample { result.1 ≡ false
+    ensures shown { result.1 ≡ false
         → R.kind.shown (R.hosted runs.new ports.new) ≡ R.kind.shown (R.hosted runs.old ports.old) }
     ensures calls { R.calls runs.new ≡ R.calls runs.old + 1 }
 {
@@ -36,9 +36,9 @@ pub(crate) fn step<V, P, R: Runs<V, P>>(
     }
     let news = runs.quiet_clock(ports, clock);
     if news.fifos {
-        (runs.next_due(ports, clock + 1, end), news.sample)
+        (runs.next_due(ports, clock + 1, end), news.shown)
     } else {
-        (until, news.sample)
+        (until, news.shown)
     }
 }
 
@@ -53,7 +53,7 @@ pub(crate) fn leap<V, P, R: Runs<V, P>>(runs: &mut R, ports: &P, clock: u64, unt
     ensures until { result ≤ until }
     ensures run { R.hosted runs.new ports.now ≡ R.kind.quiet_from (R.hosted runs.old ports.now) (result - clock) }
     ensures calm { IsCalm R.kind (R.hosted runs.old ports.now) (result - clock) }
-    ensures moves { result < until → R.kind.moves (R.hosted runs.new ports.now) ≡ true }
+    ensures moves_on { result < until → R.kind.moves_on (R.hosted runs.new ports.now) ≡ true }
     ensures calls { R.calls runs.new ≡ R.calls runs.old }
 {
     runs.is_of_its_kind(ports);

@@ -15,6 +15,8 @@ use std::borrow::Cow;
 impl<'a, F: Fifo> Runs<Conduct, HostPorts<'a>> for Conducted<F> {
     ghost use Rattle.dreq_pacing.specs.declared.line.Line.{Line};
     ghost use Rattle.dreq_pacing.specs.Lines.{NoneBetween};
+    ghost use Rattle.block_core.specs.Conduct.{conduct_before, conducts};
+    ghost use Rattle.block_core.specs.Hosted.{hosted_at};
 
     ghost Hosted = { Conducting };
 
@@ -23,6 +25,11 @@ impl<'a, F: Fifo> Runs<Conduct, HostPorts<'a>> for Conducted<F> {
     ghost kind = { one_conduct };
 
     ghost hosted = { λ b p. record { hosted = record { run = b.worked.run; transfers = p.transfers }; last = b.last } };
+
+    ghost course = { λ b p. record {
+      at = λ n. record { hosted = hosted_at b.worked.run p.lines n; last = conduct_before b.worked.run p.lines n };
+      samples = conducts b.worked.run p.lines;
+    } };
 
     ghost lines = { λ p. p.lines };
 
@@ -50,11 +57,7 @@ impl<'a, F: Fifo> Runs<Conduct, HostPorts<'a>> for Conducted<F> {
     #[inline(always)]
     fn quiet_clock(&mut self, _ports: &HostPorts<'a>, clock: u64) -> News {
         unused_fifos_ask_as_before();
-        let (fifos, noted) = Conducted::quiet_clock(self, clock);
-        News {
-            fifos,
-            sample: noted,
-        }
+        Conducted::quiet_clock(self, clock)
     }
 
     #[cold]

@@ -13,7 +13,9 @@ use std::borrow::Cow;
 impl<'a, F: Fifo> Runs<Inside, HostPorts<'a>> for Block<F> {
     ghost use Rattle.dreq_pacing.specs.declared.line.Line.{Line};
     ghost use Rattle.dreq_pacing.specs.Lines.{NoneBetween};
+    ghost use Rattle.block_core.specs.Hosted.{hosted_at};
     ghost use Rattle.block_core.specs.Hosted as spec;
+    ghost use Rattle.block_core.specs.Inside.{insides};
 
     ghost Hosted = { spec.Hosted };
 
@@ -22,6 +24,8 @@ impl<'a, F: Fifo> Runs<Inside, HostPorts<'a>> for Block<F> {
     ghost kind = { one_inside };
 
     ghost hosted = { λ b p. record { run = b.run; transfers = p.transfers } };
+
+    ghost course = { λ b p. record { at = hosted_at b.run p.lines; samples = insides b.run p.lines } };
 
     ghost lines = { λ p. p.lines };
 
@@ -50,7 +54,7 @@ impl<'a, F: Fifo> Runs<Inside, HostPorts<'a>> for Block<F> {
         let news = <Self as Runs<Sample, HostPorts<'a>>>::quiet_clock(self, ports, clock);
         News {
             fifos: news.fifos,
-            sample: true,
+            shown: true,
         }
     }
 

@@ -2,7 +2,7 @@
 ghost use Rattle.std.specs.Prelude.{◌≡◌, ℕ, ◌+◌, ◌<◌, ◌≤◌, ◌^◌, Bool, true, false};
 ghost use Rattle.std.specs.Cow.{cow_value};
 ghost use Rattle.dreq_pacing.specs.Ports.{IsFirst};
-ghost use Rattle.idle_engine.specs.Kinds.{RunKind, IsKind, IsUntil, IsCalm};
+ghost use Rattle.idle_engine.specs.Kinds.{Course, RunKind, IsKind, IsUntil, IsCalm};
 
 use block_core::News;
 use std::borrow::Cow;
@@ -20,6 +20,9 @@ pub(crate) trait Runs<V, P> {
 
     /// Its state now.
     ghost hosted: { Self → P → Hosted };
+
+    /// Its run from now on, if it is in clock 0.
+    ghost course: { Self → P → Course Hosted V };
 
     /// The lines of the ports.
     ghost lines: { P → Lines };
@@ -57,7 +60,7 @@ pub(crate) trait Runs<V, P> {
         ensures run { hosted self.new ports.now ≡ kind.quiet_next (hosted self.old ports.now) }
         ensures asks { result.fifos ≡ false → (l : Lines) (n : ℕ)
             → kind.acts l (hosted self.new ports.now) n ≡ kind.acts l (hosted self.old ports.now) n }
-        ensures sample { result.sample ≡ false
+        ensures shown { result.shown ≡ false
             → kind.shown (hosted self.new ports.now) ≡ kind.shown (hosted self.old ports.now) }
         ensures calls { calls self.new ≡ calls self.old + 1 };
 
@@ -70,17 +73,17 @@ pub(crate) trait Runs<V, P> {
 
     /// Whether it moves on in the present clock whatever its machines see, if the system does nothing in it.
     fn begins_or_changes(&self, ports: &P) -> bool
-        ensures { result ≡ true → kind.moves (hosted self.now ports.now) ≡ true };
+        ensures { result ≡ true → kind.moves_on (hosted self.now ports.now) ≡ true };
 
     /// How many clocks go by before the first in which it moves on, if the system does nothing, up to the most.
     fn next_stir(&self, ports: &P, most: u64) -> u64
-        ensures { IsUntil (λ n. kind.moves (kind.quiet_from (hosted self.now ports.now) n)) most 0 result };
+        ensures { IsUntil (λ n. kind.moves_on (kind.quiet_from (hosted self.now ports.now) n)) most 0 result };
 
     /// So many clocks at once, in none of which it moves on, and in which the system does nothing.
     fn leap(&mut self, ports: &P, clock: u64, clocks: u64)
         requires clock { kind.in_clock (hosted self.old ports.now) clock }
         requires within { clock + clocks ≤ 2 ^ 40 }
-        requires rests { (n : ℕ) → n < clocks → kind.moves (kind.quiet_from (hosted self.old ports.now) n) ≡ false }
+        requires rests { (n : ℕ) → n < clocks → kind.moves_on (kind.quiet_from (hosted self.old ports.now) n) ≡ false }
         ensures run { hosted self.new ports.now ≡ kind.quiet_from (hosted self.old ports.now) clocks }
         ensures calm { IsCalm kind (hosted self.old ports.now) clocks }
         ensures calls { calls self.new ≡ calls self.old };

@@ -8,10 +8,9 @@ mod kind;
 mod laws;
 mod one;
 mod simulation;
-mod two;
+mod twin;
 
 pub use laws::{
-    a_stopped_inspection_leaves_a_first_part, a_stopped_pair_leaves_a_first_part,
     a_stopped_run_leaves_a_first_part, few_clocks_are_worked_out, later_samples_follow,
 };
 pub use simulation::{simulate, simulate_conduct, simulate_inside, simulate_twin};

@@ -13,6 +13,7 @@ use std::borrow::Cow;
 impl<'a, F: Fifo> Runs<Sample, HostPorts<'a>> for Block<F> {
     ghost use Rattle.dreq_pacing.specs.declared.line.Line.{Line};
     ghost use Rattle.dreq_pacing.specs.Lines.{NoneBetween};
+    ghost use Rattle.block_core.specs.Hosted.{hosted_at, samples};
     ghost use Rattle.block_core.specs.Hosted as spec;
 
     ghost Hosted = { spec.Hosted };
@@ -22,6 +23,8 @@ impl<'a, F: Fifo> Runs<Sample, HostPorts<'a>> for Block<F> {
     ghost kind = { one };
 
     ghost hosted = { λ b p. record { run = b.run; transfers = p.transfers } };
+
+    ghost course = { λ b p. record { at = hosted_at b.run p.lines; samples = samples b.run p.lines } };
 
     ghost lines = { λ p. p.lines };
 

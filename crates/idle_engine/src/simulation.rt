@@ -8,7 +8,7 @@ ghost use Rattle.block_core.specs.Inside.{insides};
 ghost use Rattle.block_core.specs.Stirring.{worked};
 ghost use Rattle.sample_trace.specs.Told.{IsNext, told_at};
 ghost use Rattle.idle_engine.specs.Kinds.{IsCourse};
-ghost use Rattle.idle_engine.specs.Stops.{InsideStopsAt, Stops, StopsAt, TwinStopsAt};
+ghost use Rattle.idle_engine.specs.Stops.{FromReady, Stops, run_after, twin_after};
 ghost use Rattle.idle_engine.specs.Worked.{worked_in, twin_worked_in};
 
 use crate::clocks::{leap, step};
@@ -37,11 +37,11 @@ pub fn simulate<F: Fifo, T: Trace<Sample>, L: Ledger>(
     requires fresh { block.old.run.clock ≡ 0 }
     requires within { clocks ≤ 10 ^ 12 }
     requires working { T.has_failed trace.old ≡ false }
-    ensures ok { OnOk result ((b : Option (List ℕ)) → T.ready trace.old b
-        → T.holds trace.new b (samples block.old.run schedule.now clocks) true) }
+    ensures ok { OnOk result (FromReady (T.ready trace.old) (T.holds trace.new)
+        (samples block.old.run schedule.now clocks) true) }
     ensures run { OnOk result (block.new.run ≡ (hosted_at block.old.run schedule.now clocks).run) }
-    ensures err { OnErr result (StopsAt block.old.run schedule.now clocks block.new.run
-        (λ told ended. (b : Option (List ℕ)) → T.ready trace.old b → T.broken trace.new b told ended)) }
+    ensures err { OnErr result (Stops (run_after block.old.run schedule.now) (samples block.old.run schedule.now)
+        clocks block.new.run (FromReady (T.ready trace.old) (T.broken trace.new))) }
     ensures failed { T.has_failed trace.new ≡ is_err result }
     ensures cause { PutCounts (T.faults trace.old) (T.faults trace.new) result }
     ensures same { T.name trace.new ≡ T.name trace.old }
@@ -67,11 +67,11 @@ pub fn simulate_inside<F: Fifo, T: Trace<Inside>, L: Ledger>(
     requires fresh { block.old.run.clock ≡ 0 }
     requires within { clocks ≤ 10 ^ 12 }
     requires working { T.has_failed trace.old ≡ false }
-    ensures ok { OnOk result ((b : Option (List ℕ)) → T.ready trace.old b
-        → T.holds trace.new b (insides block.old.run schedule.now clocks) true) }
+    ensures ok { OnOk result (FromReady (T.ready trace.old) (T.holds trace.new)
+        (insides block.old.run schedule.now clocks) true) }
     ensures run { OnOk result (block.new.run ≡ (hosted_at block.old.run schedule.now clocks).run) }
-    ensures err { OnErr result (InsideStopsAt block.old.run schedule.now clocks block.new.run
-        (λ told ended. (b : Option (List ℕ)) → T.ready trace.old b → T.broken trace.new b told ended)) }
+    ensures err { OnErr result (Stops (run_after block.old.run schedule.now) (insides block.old.run schedule.now)
+        clocks block.new.run (FromReady (T.ready trace.old) (T.broken trace.new))) }
     ensures failed { T.has_failed trace.new ≡ is_err result }
     ensures cause { PutCounts (T.faults trace.old) (T.faults trace.new) result }
     ensures same { T.name trace.new ≡ T.name trace.old }
@@ -98,8 +98,8 @@ pub fn simulate_conduct<F: Fifo, T: Trace<Conduct>, L: Ledger>(
     requires untold { block.old.last ≡ no_conduct block.old.worked.run }
     requires within { clocks ≤ 10 ^ 12 }
     requires working { T.has_failed trace.old ≡ false }
-    ensures ok { OnOk result ((b : Option (List ℕ)) → T.ready trace.old b
-        → T.holds trace.new b (conducts block.old.worked.run schedule.now clocks) true) }
+    ensures ok { OnOk result (FromReady (T.ready trace.old) (T.holds trace.new)
+        (conducts block.old.worked.run schedule.now clocks) true) }
     ensures run { OnOk result (block.new.worked.run ≡ (hosted_at block.old.worked.run schedule.now clocks).run) }
     ensures failed { T.has_failed trace.new ≡ is_err result }
     ensures cause { PutCounts (T.faults trace.old) (T.faults trace.new) result }
@@ -131,11 +131,11 @@ pub fn simulate_twin<F: Fifo, T: Trace<(Sample, Sample)>, L: Ledger>(
     requires fresh_second { twin.old.twin.second.clock ≡ 0 }
     requires within { clocks ≤ 10 ^ 12 }
     requires working { T.has_failed trace.old ≡ false }
-    ensures ok { OnOk result ((b : Option (List ℕ)) → T.ready trace.old b
-        → T.holds trace.new b (twin_samples twin.old.twin first.now second.now clocks) true) }
+    ensures ok { OnOk result (FromReady (T.ready trace.old) (T.holds trace.new)
+        (twin_samples twin.old.twin first.now second.now clocks) true) }
     ensures run { OnOk result (twin.new.twin ≡ twin_of (hosted_twin_at twin.old.twin first.now second.now clocks)) }
-    ensures err { OnErr result (TwinStopsAt twin.old.twin first.now second.now clocks twin.new.twin
-        (λ told ended. (b : Option (List ℕ)) → T.ready trace.old b → T.broken trace.new b told ended)) }
+    ensures err { OnErr result (Stops (twin_after twin.old.twin first.now second.now)
+        (twin_samples twin.old.twin first.now second.now) clocks twin.new.twin (FromReady (T.ready trace.old) (T.broken trace.new))) }
     ensures failed { T.has_failed trace.new ≡ is_err result }
     ensures cause { PutCounts (T.faults trace.old) (T.faults trace.new) result }
     ensures same { T.name trace.new ≡ T.name trace.old }
@@ -157,34 +157,31 @@ fn run<V: Drop, P, R: Runs<V, P>, T: Trace<V>, L: Ledger>(
     trace: &mut T,
     steps: &mut Steps<L>,
 ) -> Result<(), TraceFailed>
-    requires course { let course = R.kind.course (R.lines ports.old) (R.hosted runs.old ports.old) in
-        IsCourse R.kind (R.lines ports.old) (R.hosted runs.old ports.old) course }
+    requires course { IsCourse R.kind (R.lines ports.old) (R.hosted runs.old ports.old) (R.course runs.old ports.old) }
     requires may_ask { R.may_ask ports.old 0 }
     requires within { clocks ≤ 10 ^ 12 }
     requires working { T.has_failed trace.old ≡ false }
-    ensures ok { let course = R.kind.course (R.lines ports.old) (R.hosted runs.old ports.old) in
-        OnOk result ((b : Option (List ℕ)) → T.ready trace.old b → T.holds trace.new b (course.samples clocks) true) }
-    ensures run { let course = R.kind.course (R.lines ports.old) (R.hosted runs.old ports.old) in
-        OnOk result (R.hosted runs.new ports.new ≡ course.at clocks) }
-    ensures err { let course = R.kind.course (R.lines ports.old) (R.hosted runs.old ports.old) in
-        OnErr result (Stops course.at course.samples clocks (R.hosted runs.new ports.new)
-        (λ told ended. (b : Option (List ℕ)) → T.ready trace.old b → T.broken trace.new b told ended)) }
+    ensures ok { OnOk result (FromReady (T.ready trace.old) (T.holds trace.new)
+        ((R.course runs.old ports.old).samples clocks) true) }
+    ensures run { OnOk result (R.hosted runs.new ports.new ≡ (R.course runs.old ports.old).at clocks) }
+    ensures err { OnErr result (Stops (R.course runs.old ports.old).at (R.course runs.old ports.old).samples
+        clocks (R.hosted runs.new ports.new) (FromReady (T.ready trace.old) (T.broken trace.new))) }
     ensures failed { T.has_failed trace.new ≡ is_err result }
     ensures cause { PutCounts (T.faults trace.old) (T.faults trace.new) result }
     ensures same { T.name trace.new ≡ T.name trace.old }
     ensures steps { steps.new + R.calls runs.old ≡ steps.old + R.calls runs.new }
-    ensures exact { let course = R.kind.course (R.lines ports.old) (R.hosted runs.old ports.old) in
-        OnOk result (steps.new ≡ steps.old + worked (λ c. R.kind.stirs (R.lines ports.old) (course.at c)) clocks) }
-    ensures most { let course = R.kind.course (R.lines ports.old) (R.hosted runs.old ports.old) in
-        steps.new ≤ steps.old + worked (λ c. R.kind.stirs (R.lines ports.old) (course.at c)) clocks }
+    ensures exact { OnOk result (steps.new ≡ steps.old
+        + worked (λ c. R.kind.stirs (R.lines ports.old) ((R.course runs.old ports.old).at c)) clocks) }
+    ensures most { steps.new ≤ steps.old
+        + worked (λ c. R.kind.stirs (R.lines ports.old) ((R.course runs.old ports.old).at c)) clocks }
 {
     runs.is_of_its_kind(ports);
     trace.begin()?;
     let mut until = runs.next_due(ports, 0, clocks);
     let mut clock = 0;
     'clocks: while clock < clocks {
-        let (rests, is_new) = step(runs, ports, clock, until, clocks);
-        until = rests;
+        let (next, is_new) = step(runs, ports, clock, until, clocks);
+        until = next;
         steps.count();
         tell(trace, clock, runs, ports, is_new | (clock == 0))?;
         clock = leap(runs, ports, clock + 1, until);

@@ -20,7 +20,7 @@ impl<F: Fifo> Running<F> {
         requires { self.old.clock < 2 ^ 40 }
         ensures run { self.new ≡ next_over pad quiet self.old }
         ensures fifos { result.fifos ≡ uses_fifos_over pad quiet self.old }
-        ensures sample { result.sample ≡ false → sample_of self.new.state ≡ sample_of self.old.state }
+        ensures shown { result.shown ≡ false → sample_of self.new.state ≡ sample_of self.old.state }
     {
         a_calm_tick_tells_nothing_new();
         a_quiet_clock_changes_nothing();
@@ -35,14 +35,14 @@ impl<F: Fifo> Running<F> {
                     self.clock += 1;
                     return News {
                         fifos: false,
-                        sample: self.sample.show_pins(&self.wanted.outputs),
+                        shown: self.sample.show_pins(&self.wanted.outputs),
                     };
                 }
             }
         }
         News {
             fifos: self.step_all(pad, None),
-            sample: true,
+            shown: true,
         }
     }
 }

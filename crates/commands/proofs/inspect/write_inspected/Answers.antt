@@ -21,7 +21,7 @@ returns-clause-ends g c =
     let bytes : Takes before (inside_text t.configured (insides start lines c.args.clocks)) after c.simulate_inside-put.result =
     takes c.simulate_inside-put.result before after _ (on_ok_weaker c.simulate_inside-put.result (λ told. (told names refl t.configured before refl).text) c.simulate_inside-put.ensures.ok)
     (on_err_weaker c.simulate_inside-put.result (λ stops.
-    c.a_stopped_inspection_leaves_a_first_part.ensures before after (inside_text_of t.configured) start _ lines c.args.clocks (c.failing_early_leaves_a_first_part_of_what_is_inside.ensures t.configured before after)
+    c.a_stopped_run_leaves_a_first_part.ensures.insides start lines before after (inside_text_of t.configured) c.args.clocks _ (c.failing_early_leaves_a_first_part_of_what_is_inside.ensures t.configured before after)
     (stops_as _ _ _ _ _ _ (λ told ended breaks. breaks names refl t.configured before refl) stops)) c.simulate_inside-put.ensures.err) in
     let took : Takes (g.O.Sink.taken c.args.out.now) (inspected_text c.args.setup.now lines c.args.clocks) after c.simulate_inside-put.result = rw (ap (λ b. b.run) c.in_ok-block.ensures) at (rw c.configured.ensures at (rw c.new-trace.ensures.configured at (rw c.new-trace.ensures.same at bytes))) in
     let cause : PutCounts (g.O.Sink.faults c.args.out.now) (g.O.Sink.faults c.simulate_inside-put.new.trace.sink.now) c.simulate_inside-put.result = rw c.new-trace.ensures.same at c.simulate_inside-put.ensures.cause in

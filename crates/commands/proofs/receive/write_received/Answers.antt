@@ -26,7 +26,7 @@ returns-clause-ends g c =
     let bytes : Takes before (text (samples start lines c.args.clocks) true) after c.simulate-put.result =
     takes c.simulate-put.result before after _ (on_ok_weaker c.simulate-put.result (λ told. (told heard refl t.pin t.bit t.first before refl).text) c.simulate-put.ensures.ok)
     (on_err_weaker c.simulate-put.result (λ stops.
-    c.a_stopped_run_leaves_a_first_part.ensures before after text start _ lines c.args.clocks (c.stopping_early_leaves_a_first_part.ensures t.pin t.bit t.first before after)
+    c.a_stopped_run_leaves_a_first_part.ensures.samples start lines before after text c.args.clocks _ (c.stopping_early_leaves_a_first_part.ensures t.pin t.bit t.first before after)
     (stops_as _ _ _ _ _ _ (λ told ended breaks. breaks heard refl t.pin t.bit t.first before refl) stops)) c.simulate-put.ensures.err) in
     let first : t.first ≡ is_high start.state.levels c.args.line.pin = c.new-trace.ensures.level ∙ c.is_high-first.ensures ∙ ap (λ (s : Sample). is_high s.level c.args.line.pin) c.view.ensures in
     let took : Takes (g.O.Sink.taken c.args.out.now) (received_text (first_run c.args.setup.now) c.args.line.pin c.args.line.bit lines c.args.clocks) after c.simulate-put.result = rw (ap (λ b. b.run) c.in_ok-block.ensures) at (rw first at (rw c.new-trace.ensures.bit at (rw c.new-trace.ensures.pin at (rw c.new-trace.ensures.same at bytes)))) in

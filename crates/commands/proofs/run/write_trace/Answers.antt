@@ -18,7 +18,7 @@ returns-clause-ends g c =
     let bytes : Takes before (vcd_text (samples start lines c.args.clocks)) after c.simulate-put.result =
     takes c.simulate-put.result before after _ (on_ok_weaker c.simulate-put.result (λ told. (told before refl).text) c.simulate-put.ensures.ok)
     (on_err_weaker c.simulate-put.result (λ stops.
-    c.a_stopped_run_leaves_a_first_part.ensures before after text_of start _ lines c.args.clocks (c.failing_early_leaves_a_first_part.ensures before after)
+    c.a_stopped_run_leaves_a_first_part.ensures.samples start lines before after text_of c.args.clocks _ (c.failing_early_leaves_a_first_part.ensures before after)
     (stops_as _ _ _ _ _ _ (λ told ended breaks. breaks before refl) stops)) c.simulate-put.ensures.err) in
     let took : Takes (g.O.Sink.taken c.args.out.now) (trace_text (first_run c.args.setup.now) lines c.args.clocks) after c.simulate-put.result = rw (ap (λ b. b.run) c.in_ok-block.ensures) at (rw c.new-trace.ensures.same at bytes) in
     let cause : PutCounts (g.O.Sink.faults c.args.out.now) (g.O.Sink.faults c.simulate-put.new.trace.sink.now) c.simulate-put.result = rw c.new-trace.ensures.same at c.simulate-put.ensures.cause in

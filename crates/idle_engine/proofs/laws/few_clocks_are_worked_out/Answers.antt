@@ -1,8 +1,8 @@
 use Rattle.block_core.specs.Hosted.{hosted_at}
 use Rattle.block_core.specs.HostedTwin.{hosted_twin_at, twin_stirs_in}
 use Rattle.block_core.specs.Stirring.{stirs_in}
-use Rattle.idle_engine.proofs.SampleLists.{worked-stirring, worked-twin_stirring}
-use Rattle.idle_engine.proofs.Working.{worked-all}
+use Rattle.idle_engine.proofs.Courses.{worked-stirring, worked-twin_stirring}
+use Rattle.idle_engine.proofs.WorkedClocks.{worked-all}
 use Rattle.idle_engine.proofs.laws.few_clocks_are_worked_out.Goals as goal
 
 pub returns-clause-clocks : goal.returns-clause-clocks

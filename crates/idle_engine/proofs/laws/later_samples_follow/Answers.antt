@@ -1,4 +1,4 @@
-use Rattle.idle_engine.proofs.SampleLists.{samples-from}
+use Rattle.idle_engine.proofs.Courses.{samples-from}
 use Rattle.idle_engine.proofs.laws.later_samples_follow.Goals as goal
 
 pub returns : goal.returns

@@ -3,8 +3,8 @@ use Rattle.std.proofs.lemmas.Result.{on_err_weaker, on_ok_weaker}
 use Rattle.sample_trace.specs.Told.{IsNext, held_to}
 use Rattle.idle_engine.specs.Kinds.{IsUntil, shown_at}
 use Rattle.idle_engine.proofs.RepeatedSamples.{IsTold, is-held, is-next, is-told, told-after, told-none}
-use Rattle.idle_engine.proofs.Leaping.{IsAfterLeap, after_leap, course-next, in_clocks, shown-next, shows-again}
-use Rattle.idle_engine.proofs.Working.{worked-grows, worked-later, worked-none}
+use Rattle.idle_engine.proofs.AfterLeaps.{IsAfterLeap, after_leap, course-next, in_clocks, shown-next, shows-again}
+use Rattle.idle_engine.proofs.WorkedClocks.{worked-grows, worked-later, worked-none}
 use Rattle.idle_engine.proofs.simulation.run.Given.{Over}
 use Rattle.idle_engine.proofs.simulation.run.Goals as goal
 
@@ -26,7 +26,7 @@ returns-in_err-begin-clause-err g c =
 
 pub clocks-init : goal.clocks-init
 clocks-init g c =
-    let course = g.R.Runs.kind.course (g.R.Runs.lines c.args.ports.now) (g.R.Runs.hosted c.args.runs.now c.args.ports.now) in
+    let course = g.R.Runs.course c.args.runs.now c.args.ports.now in
     let k = g.R.Runs.kind in
     let none = worked-none (λ n. k.stirs (g.R.Runs.lines c.args.ports.now) (course.at n)) in
     record {
@@ -47,26 +47,26 @@ clocks-init g c =
       worked = omega arith;
     }
 
-pub step-rests-requires-clause-clock : goal.step-rests-requires-clause-clock
-step-rests-requires-clause-clock g c =
+pub step-next-requires-clause-clock : goal.step-next-requires-clause-clock
+step-next-requires-clause-clock g c =
     let inv = c.clocks.invariant in
     subst (λ (h : g.R.Runs.Hosted). g.R.Runs.kind.in_clock h c.clocks.clock) (sym inv.run) (inv.clocks_at c.clocks.clock)
 
 pub leap-clock-requires-clause-clock : goal.leap-clock-requires-clause-clock
 leap-clock-requires-clause-clock g c =
-    let course = g.R.Runs.kind.course (g.R.Runs.lines c.args.ports.now) (g.R.Runs.hosted c.args.runs.now c.args.ports.now) in
+    let course = g.R.Runs.course c.args.runs.now c.args.ports.now in
     let inv = c.clocks.invariant in
     let k = g.R.Runs.kind in
-    let run = course-next k (g.R.Runs.lines c.args.ports.now) (g.R.Runs.lines c.clocks.ports) _ course inv.is_course c.clocks.clock _ _ inv.run inv.lines c.step-rests.ensures.run in
+    let run = course-next k (g.R.Runs.lines c.args.ports.now) (g.R.Runs.lines c.clocks.ports) _ course inv.is_course c.clocks.clock _ _ inv.run inv.lines c.step-next.ensures.run in
     subst (λ (h : g.R.Runs.Hosted). k.in_clock h (c.clocks.clock + 1)) (sym run) (inv.clocks_at (c.clocks.clock + 1))
 
 pub returns-in_err-tell-clause-err : goal.returns-in_err-tell-clause-err
 returns-in_err-tell-clause-err g c =
-    let course = g.R.Runs.kind.course (g.R.Runs.lines c.args.ports.now) (g.R.Runs.hosted c.args.runs.now c.args.ports.now) in
+    let course = g.R.Runs.course c.args.runs.now c.args.ports.now in
     let inv = c.clocks.invariant in
     let k = g.R.Runs.kind in
     let n = c.clocks.clock in
-    let run = course-next k (g.R.Runs.lines c.args.ports.now) (g.R.Runs.lines c.clocks.ports) _ course inv.is_course n _ _ inv.run inv.lines c.step-rests.ensures.run in
+    let run = course-next k (g.R.Runs.lines c.args.ports.now) (g.R.Runs.lines c.clocks.ports) _ course inv.is_course n _ _ inv.run inv.lines c.step-next.ensures.run in
     let s = shown-next k course n _ _ run refl in
     on_err c.from_residual-in_err-tell.result (record {
       count = n + 1;
@@ -82,7 +82,7 @@ returns-in_err-tell-clause-err g c =
 
 pub returns-in_err-tell-clause-most : goal.returns-in_err-tell-clause-most
 returns-in_err-tell-clause-most g c =
-    let course = g.R.Runs.kind.course (g.R.Runs.lines c.args.ports.now) (g.R.Runs.hosted c.args.runs.now c.args.ports.now) in
+    let course = g.R.Runs.course c.args.runs.now c.args.ports.now in
     let inv = c.clocks.invariant in
     let test : ℕ → Bool = λ n. g.R.Runs.kind.stirs (g.R.Runs.lines c.args.ports.now) (course.at n) in
     let one = worked-later test c.clocks.clock (c.clocks.clock + 1) (omega arith) (λ some. inv.stirs some c.clocks-test.true) (λ j low below. absurd (omega arith)) in
@@ -90,48 +90,48 @@ returns-in_err-tell-clause-most g c =
     omega (arith, inv.worked, one, more, c.count.ensures)
 
 -- the run after the clocks that were leapt over
-run_after : (g : Over) (c : goal.After-leap-clock g) → IsAfterLeap g.R.Runs.kind (g.R.Runs.lines c.args.ports.now) (g.R.Runs.kind.course (g.R.Runs.lines c.args.ports.now) (g.R.Runs.hosted c.args.runs.now c.args.ports.now)) c.clocks.clock c.leap-clock.result c.step-rests.result.0 c.args.clocks (g.R.Runs.hosted c.leap-clock.new.runs c.step-rests.new.ports)
+run_after : (g : Over) (c : goal.After-leap-clock g) → IsAfterLeap g.R.Runs.kind (g.R.Runs.lines c.args.ports.now) (g.R.Runs.course c.args.runs.now c.args.ports.now) c.clocks.clock c.leap-clock.result c.step-next.result.0 c.args.clocks (g.R.Runs.hosted c.leap-clock.new.runs c.step-next.new.ports)
 run_after g c =
-    let course = g.R.Runs.kind.course (g.R.Runs.lines c.args.ports.now) (g.R.Runs.hosted c.args.runs.now c.args.ports.now) in
+    let course = g.R.Runs.course c.args.runs.now c.args.ports.now in
     let inv = c.clocks.invariant in
     let k = g.R.Runs.kind in
     let lines = g.R.Runs.lines c.args.ports.now in
-    let run = course-next k lines (g.R.Runs.lines c.clocks.ports) _ course inv.is_course c.clocks.clock _ _ inv.run inv.lines c.step-rests.ensures.run in
-    let own : g.R.Runs.lines c.step-rests.new.ports ≡ lines = c.step-rests.ensures.lines ∙ inv.lines in
-    let until = subst (λ (l : g.R.Runs.Lines). IsUntil (k.acts l (g.R.Runs.hosted c.step-rests.new.runs c.step-rests.new.ports)) c.args.clocks (c.clocks.clock + 1) c.step-rests.result.0) own c.step-rests.ensures.until in
-    after_leap k c.is_of_its_kind.ensures.kind lines _ course inv.is_course inv.clocks_at c.clocks.clock c.leap-clock.result c.step-rests.result.0 c.args.clocks _ _ run
-    c.leap-clock.ensures.from c.leap-clock.ensures.until until c.leap-clock.ensures.run c.leap-clock.ensures.calm c.leap-clock.ensures.moves
+    let run = course-next k lines (g.R.Runs.lines c.clocks.ports) _ course inv.is_course c.clocks.clock _ _ inv.run inv.lines c.step-next.ensures.run in
+    let own : g.R.Runs.lines c.step-next.new.ports ≡ lines = c.step-next.ensures.lines ∙ inv.lines in
+    let until = subst (λ (l : g.R.Runs.Lines). IsUntil (k.acts l (g.R.Runs.hosted c.step-next.new.runs c.step-next.new.ports)) c.args.clocks (c.clocks.clock + 1) c.step-next.result.0) own c.step-next.ensures.until in
+    after_leap k c.is_of_its_kind.ensures.kind lines _ course inv.is_course inv.clocks_at c.clocks.clock c.leap-clock.result c.step-next.result.0 c.args.clocks _ _ run
+    c.leap-clock.ensures.from c.leap-clock.ensures.until until c.leap-clock.ensures.run c.leap-clock.ensures.calm c.leap-clock.ensures.moves_on
 
 -- what the trace was told of by then
-told_after : (g : Over) (c : goal.After-leap-clock g) → IsTold (shown_at g.R.Runs.kind (g.R.Runs.kind.course (g.R.Runs.lines c.args.ports.now) (g.R.Runs.hosted c.args.runs.now c.args.ports.now))) (g.R.Runs.kind.course (g.R.Runs.lines c.args.ports.now) (g.R.Runs.hosted c.args.runs.now c.args.ports.now)).samples c.leap-clock.result (λ s. (b : Option (List ℕ)) → g.T.Trace.ready c.args.trace.now b → g.T.Trace.holds c.tell.new.trace b s false)
+told_after : (g : Over) (c : goal.After-leap-clock g) → IsTold (shown_at g.R.Runs.kind (g.R.Runs.course c.args.runs.now c.args.ports.now)) (g.R.Runs.course c.args.runs.now c.args.ports.now).samples c.leap-clock.result (λ s. (b : Option (List ℕ)) → g.T.Trace.ready c.args.trace.now b → g.T.Trace.holds c.tell.new.trace b s false)
 told_after g c =
-    let course = g.R.Runs.kind.course (g.R.Runs.lines c.args.ports.now) (g.R.Runs.hosted c.args.runs.now c.args.ports.now) in
+    let course = g.R.Runs.course c.args.runs.now c.args.ports.now in
     let inv = c.clocks.invariant in
     let k = g.R.Runs.kind in
     let n = c.clocks.clock in
-    let run = course-next k (g.R.Runs.lines c.args.ports.now) (g.R.Runs.lines c.clocks.ports) _ course inv.is_course n _ _ inv.run inv.lines c.step-rests.ensures.run in
+    let run = course-next k (g.R.Runs.lines c.args.ports.now) (g.R.Runs.lines c.clocks.ports) _ course inv.is_course n _ _ inv.run inv.lines c.step-next.ensures.run in
     let s = shown-next k course n _ _ run refl in
-    told-after (shown_at k course) course.samples inv.is_course.samples n c.leap-clock.result _ c.step-rests.result.1 _ _ c.leap-clock.ensures.from (run_after g c).same s
-    (λ old some. shows-again k course n _ _ inv.run run (c.step-rests.ensures.sample old) some) inv.told
+    told-after (shown_at k course) course.samples inv.is_course.samples n c.leap-clock.result _ c.step-next.result.1 _ _ c.leap-clock.ensures.from (run_after g c).same s
+    (λ old some. shows-again k course n _ _ inv.run run (c.step-next.ensures.shown old) some) inv.told
     (λ tells holds next b r. c.in_ok-tell.ensures.ok tells b (course.samples inv.told.last) (holds b r) next)
     (λ again l holds b r. subst (λ t. g.T.Trace.holds t b l false) (sym (c.in_ok-tell.ensures.again again)) (holds b r))
 
 pub clocks-preserved : goal.clocks-preserved
 clocks-preserved g c =
-    let course = g.R.Runs.kind.course (g.R.Runs.lines c.args.ports.now) (g.R.Runs.hosted c.args.runs.now c.args.ports.now) in
+    let course = g.R.Runs.course c.args.runs.now c.args.ports.now in
     let inv = c.clocks.invariant in
     let k = g.R.Runs.kind in
     let lines = g.R.Runs.lines c.args.ports.now in
     let after = run_after g c in
-    let until = c.step-rests.ensures.until in
+    let until = c.step-next.ensures.until in
     let test : ℕ → Bool = λ n. k.stirs lines (course.at n) in
     let one = worked-later test c.clocks.clock c.leap-clock.result c.leap-clock.ensures.from (λ some. inv.stirs some c.clocks-test.true) after.still in
     record {
       is_course = inv.is_course;
       clocks_at = inv.clocks_at;
       run = after.run;
-      lines = c.step-rests.ensures.lines ∙ inv.lines;
-      may_ask = c.is_of_its_kind.ensures.waits c.step-rests.new.ports _ (c.clocks.clock + 1) c.leap-clock.result c.step-rests.ensures.may_ask c.leap-clock.ensures.from (λ j low below. until.rests j low (omega (arith, c.leap-clock.ensures.until)));
+      lines = c.step-next.ensures.lines ∙ inv.lines;
+      may_ask = c.is_of_its_kind.ensures.waits c.step-next.new.ports _ (c.clocks.clock + 1) c.leap-clock.result c.step-next.ensures.may_ask c.leap-clock.ensures.from (λ j low below. until.rests j low (omega (arith, c.leap-clock.ensures.until)));
       within = omega (arith, c.leap-clock.ensures.until, until.within);
       until = after.rests;
       stirs = λ some. after.stirs;
@@ -145,7 +145,7 @@ clocks-preserved g c =
 
 pub returns-clause-ok : goal.returns-clause-ok
 returns-clause-ok g c =
-    let course = g.R.Runs.kind.course (g.R.Runs.lines c.args.ports.now) (g.R.Runs.hosted c.args.runs.now c.args.ports.now) in
+    let course = g.R.Runs.course c.args.runs.now c.args.ports.now in
     let inv = c.clocks.invariant in
     let at = shown_at g.R.Runs.kind course in
     let all = course.samples in
@@ -158,7 +158,7 @@ returns-clause-ok g c =
 
 pub returns-clause-err : goal.returns-clause-err
 returns-clause-err g c =
-    let course = g.R.Runs.kind.course (g.R.Runs.lines c.args.ports.now) (g.R.Runs.hosted c.args.runs.now c.args.ports.now) in
+    let course = g.R.Runs.course c.args.runs.now c.args.ports.now in
     let inv = c.clocks.invariant in
     let at = shown_at g.R.Runs.kind course in
     let all = course.samples in

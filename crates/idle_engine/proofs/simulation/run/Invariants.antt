@@ -8,7 +8,7 @@ use Rattle.idle_engine.proofs.simulation.run.Given as goal
 -- last one that may have shown something new, and those since show the same.
 abbrev pub invariant-clocks : goal.invariant-clocks
 invariant-clocks g l = let k = g.R.Runs.kind in
-    let course = k.course (g.R.Runs.lines l.fn.ports) (g.R.Runs.hosted l.fn.runs l.fn.ports) in
+    let course = g.R.Runs.course l.fn.runs l.fn.ports in
     record {
       is_course : IsCourse k (g.R.Runs.lines l.fn.ports) (g.R.Runs.hosted l.fn.runs l.fn.ports) course;
       clocks_at : (n : ℕ) → k.in_clock (course.at n) n;

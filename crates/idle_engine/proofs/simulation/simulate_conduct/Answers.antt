@@ -2,7 +2,7 @@ use Rattle.std.proofs.Common.{◌+◌, ◌≤◌, List, ap, subst}
 use Rattle.dreq_pacing.specs.declared.line.Line.{Line}
 use Rattle.dreq_pacing.specs.Ports.{Ports}
 use Rattle.idle_engine.specs.Worked.{worked_in}
-use Rattle.idle_engine.proofs.Conducting.{conduct-course}
+use Rattle.idle_engine.proofs.ConductKind.{conduct-course}
 use Rattle.idle_engine.proofs.simulation.simulate_conduct.Goals as goal
 
 pub run-requires-clause-course : goal.run-requires-clause-course

@@ -3,7 +3,7 @@ use Rattle.dreq_pacing.specs.Due.{quiet}
 use Rattle.block_core.specs.Block.{Run, Worked, run_from}
 use Rattle.block_core.specs.Leaps.{leapt}
 use Rattle.block_core.specs.Stirring.{moves_on}
-use Rattle.block_core.proofs.Leaping.{machines_calm}
+use Rattle.block_core.proofs.NextStirs.{machines_calm}
 use Rattle.block_core.proofs.LeaptRun.{rests}
 use Rattle.block_core.proofs.Steps.{clock-leapt}
 use Rattle.block_core.proofs.block.Block.leap.Goals as goal

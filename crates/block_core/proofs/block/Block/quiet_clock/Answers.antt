@@ -10,7 +10,7 @@ invariant_of-self-else-news g c =
     let news = c.quiet_step-news.ensures in
     let clock = ap (λ (r : Run). r.clock) news.run in (
       omega (arith, clock, c.self.invariant.0),
-      c.self.invariant.1 ∙ sym (pads_stay c.self.inside.pad c.self.inside.running _ news.run (news.sample c.if-news.false)),
+      c.self.invariant.1 ∙ sym (pads_stay c.self.inside.pad c.self.inside.running _ news.run (news.shown c.if-news.false)),
     )
 
 pub returns-then-news-clause-run : goal.returns-then-news-clause-run

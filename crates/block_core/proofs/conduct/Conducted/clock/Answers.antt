@@ -1,7 +1,7 @@
 use Rattle.std.proofs.Common.{◌≡◌, ℕ, ◌+◌, sym, ap, ◌∙◌, subst}
 use Rattle.block_core.specs.Block.{Run}
 use Rattle.block_core.specs.Conduct.{Told, conduct_after}
-use Rattle.block_core.proofs.Conducting.{after-note, clock_next}
+use Rattle.block_core.proofs.ClocksOfNote.{after-note, clock_next}
 use Rattle.block_core.proofs.conduct.Conducted.clock.Goals as goal
 
 pub told-noted-requires-clause-clock : goal.told-noted-requires-clause-clock

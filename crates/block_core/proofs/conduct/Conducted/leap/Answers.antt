@@ -3,7 +3,7 @@ use Rattle.dreq_pacing.specs.Due.{quiet}
 use Rattle.block_core.specs.Block.{run_from}
 use Rattle.block_core.specs.Conduct.{Told, is_noted}
 use Rattle.block_core.specs.Stirring.{moves_on}
-use Rattle.block_core.proofs.Conducting.{none_noted}
+use Rattle.block_core.proofs.ClocksOfNote.{none_noted}
 use Rattle.block_core.proofs.conduct.Conducted.leap.Goals as goal
 
 pub returns-clause-none : goal.returns-clause-none

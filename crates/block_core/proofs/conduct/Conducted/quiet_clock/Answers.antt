@@ -3,7 +3,7 @@ use Rattle.dreq_pacing.specs.declared.due.Due.{Due}
 use Rattle.dreq_pacing.specs.Due.{quiet}
 use Rattle.block_core.specs.Block.{Run}
 use Rattle.block_core.specs.Conduct.{Told, conduct_after, is_noted, standings_in}
-use Rattle.block_core.proofs.Conducting.{after-note, clock_next}
+use Rattle.block_core.proofs.ClocksOfNote.{after-note, clock_next}
 use Rattle.block_core.proofs.conduct.Conducted.quiet_clock.Goals as goal
 
 pub told-noted-requires-clause-clock : goal.told-noted-requires-clause-clock
@@ -25,8 +25,8 @@ returns-clause-last g c =
     (ap (λ (r : Run). r.state) c.quiet_clock-news.ensures.run)
     told.ensures.noted told.ensures.last).1)
 
-pub returns-clause-noted : goal.returns-clause-noted
-returns-clause-noted g c =
+pub returns-clause-shown : goal.returns-clause-shown
+returns-clause-shown g c =
     let b = c.self.inside.block in
     let told = c.told-noted in
     subst (λ (t : Told). told.result.0 ≡ is_noted quiet t.worked.run) c.self.view_is

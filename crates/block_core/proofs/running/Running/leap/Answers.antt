@@ -8,7 +8,7 @@ use Rattle.block_core.specs.Stirring.{machines_stir_over}
 use Rattle.block_core.proofs.LeaptPlaces.{are_calm, in_step_leapt, leapt_run}
 use Rattle.block_core.proofs.Showing.{sample_leapt}
 use Rattle.block_core.proofs.SimpleSteps.{empty_leapt}
-use Rattle.block_core.proofs.StallFlags.{told_leapt}
+use Rattle.block_core.proofs.PlacesTold.{told_leapt}
 use Rattle.block_core.proofs.running.Running.leap.Goals as goal
 
 pub leap-requires-clause-calm : goal.leap-requires-clause-calm

@@ -2,7 +2,7 @@ use Rattle.std.proofs.Common.{◌∙◌}
 use Rattle.block_core.proofs.Showing.{first_sample}
 use Rattle.block_core.proofs.SimpleSteps.{empty_first}
 use Rattle.block_core.proofs.Steps.{first_in_step}
-use Rattle.block_core.proofs.StallFlags.{first_told}
+use Rattle.block_core.proofs.PlacesTold.{first_told}
 use Rattle.block_core.proofs.running.Running.new.Goals as goal
 
 pub invariant_of-result : goal.invariant_of-result

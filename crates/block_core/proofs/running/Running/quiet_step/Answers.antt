@@ -12,7 +12,7 @@ use Rattle.block_core.proofs.Showing.{shows_first, first_new, outputs_new}
 use Rattle.block_core.proofs.SimpleSteps.{AllEmpty, IsSimple, all_empty, simple_run, simple_uses_none, simple_shows, stays_empty}
 use Rattle.block_core.proofs.SimpleClocks.{WantsPins}
 use Rattle.block_core.proofs.Steps.{in_step_after}
-use Rattle.block_core.proofs.StallFlags.{place_told}
+use Rattle.block_core.proofs.PlacesTold.{place_told}
 use Rattle.block_core.proofs.MergedWants.{view}
 use Rattle.block_core.proofs.running.Running.quiet_step.Given.{Over}
 use Rattle.block_core.proofs.running.Running.quiet_step.Goals as goal
@@ -89,8 +89,8 @@ returns-then-is_done-clause-fifos g c =
     subst (λ (r : Run). false ≡ uses_fifos_over c.args.pad quiet r) c.self.view_is
     (simple_uses_none b.shared.memory b.clock b.wanted.outputs.levels b.wanted.outputs.directions b.shared.flags.up b.outside b.shared.sync c.args.pad _ b.first b.second b.third b.fourth (Some c.simple_clock-tried.new.self) c.simple_clock-tried.new.outputs (empty g c) (simple g c))
 
-pub returns-then-is_done-clause-sample : goal.returns-then-is_done-clause-sample
-returns-then-is_done-clause-sample g c = λ told.
+pub returns-then-is_done-clause-shown : goal.returns-then-is_done-clause-shown
+returns-then-is_done-clause-shown g c = λ told.
     sym (invariant_of-self g c).1.is
     ∙ c.show_pins.ensures.same told
     ∙ c.self.invariant.1.is

@@ -5,7 +5,7 @@ use Rattle.block_core.specs.Merging.{with_intent}
 use Rattle.block_core.specs.Slots.{doing, place_after, place_intent, place_uses_fifos}
 use Rattle.block_core.proofs.Showing.{shows_first, shows_second, shows_third, shows_fourth, first_new, second_new, third_new, fourth_new, pins_new}
 use Rattle.block_core.proofs.Steps.{in_step_after}
-use Rattle.block_core.proofs.StallFlags.{place_told}
+use Rattle.block_core.proofs.PlacesTold.{place_told}
 use Rattle.block_core.proofs.SimpleSteps.{empty_after}
 use Rattle.block_core.proofs.MergedWants.{next_run, any_used}
 use Rattle.block_core.proofs.running.Running.step_all.Goals as goal

@@ -2,7 +2,7 @@ use Rattle.std.proofs.Common.{◌≡◌, ◌+◌, ◌-◌, Some, ap, ◌∙◌, 
 use Rattle.sm_registers.specs.declared.registers.Registers.{Registers}
 use Rattle.block_core.specs.Conduct.{rests_in}
 use Rattle.block_core.specs.Slots.{Slot}
-use Rattle.block_core.proofs.Resting.{rests-later}
+use Rattle.block_core.proofs.DelayEnds.{rests-later}
 use Rattle.block_core.proofs.slot.Slot.rests.Goals as goal
 
 pub returns : goal.returns

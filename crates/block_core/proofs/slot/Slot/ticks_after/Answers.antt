@@ -1,6 +1,6 @@
 use Rattle.std.proofs.Common.{◌≡◌, false, not, ◌&&◌, ◌||◌, slice_index_or, subst}
 use Rattle.block_core.specs.Slots.{Slot, has_tick, lined}
-use Rattle.block_core.proofs.Conducting.{lined_tick}
+use Rattle.block_core.proofs.ClocksOfNote.{lined_tick}
 use Rattle.block_core.proofs.slot.Slot.ticks_after.Goals as goal
 
 pub returns : goal.returns

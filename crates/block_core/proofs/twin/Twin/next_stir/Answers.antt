@@ -17,9 +17,9 @@ returns g c =
     let b = c.self.inside in
     let t : TwinRun = record { own = b.own; first = b.first; second = b.second } in
     let told : AreBothTold t = record { first = c.a_rest_only_counts.ensures.told; second = c.a_rest_only_counts-2.ensures.told } in
-    let one = c.sooner-first.ensures (λ n. false) (λ n le. refl) in
-    let two = c.sooner.ensures (λ n. false || machines_stir_over c.pads-pad.result quiet (leapt n b.first)) one in
+    let one = c.next_stir-first.ensures (λ n. false) (λ n le. refl) in
+    let two = c.next_stir.ensures (λ n. false || machines_stir_over c.pads-pad.result quiet (leapt n b.first)) one in
     record {
-      first = subst (λ (w : WorkedTwin). IsFirst (λ n. twin_moves_on quiet quiet (twin_from w.twin (λ c. quiet) (λ c. quiet) n)) 0 c.sooner.result) c.self.view_is
-          (twin_first_moves c.a_rest_only_counts.ensures.laws t c.pads-pad.result c.sooner.result (c.pads-pad.ensures ∙ ap (λ (w : WorkedTwin). twin_pads_in quiet w.twin) (sym c.self.view_is)) (ap (λ (w : WorkedTwin). twin_pads_change c.pads-pad.result w.twin) c.self.view_is ∙ sym c.pads_change.ensures ∙ c.if-pads_change.false) told two);
+      first = subst (λ (w : WorkedTwin). IsFirst (λ n. twin_moves_on quiet quiet (twin_from w.twin (λ c. quiet) (λ c. quiet) n)) 0 c.next_stir.result) c.self.view_is
+          (twin_first_moves c.a_rest_only_counts.ensures.laws t c.pads-pad.result c.next_stir.result (c.pads-pad.ensures ∙ ap (λ (w : WorkedTwin). twin_pads_in quiet w.twin) (sym c.self.view_is)) (ap (λ (w : WorkedTwin). twin_pads_change c.pads-pad.result w.twin) c.self.view_is ∙ sym c.pads_change.ensures ∙ c.if-pads_change.false) told two);
     }

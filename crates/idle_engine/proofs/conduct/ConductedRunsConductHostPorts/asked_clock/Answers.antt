@@ -5,7 +5,7 @@ use Rattle.dreq_pacing.specs.Ports.{Ports, due_in, transfers_after}
 use Rattle.block_core.specs.Block.{Worked, next}
 use Rattle.block_core.specs.Conduct.{conduct_after}
 use Rattle.block_core.specs.Shown.{requests_of}
-use Rattle.idle_engine.proofs.Conducting.{conduct-asked}
+use Rattle.idle_engine.proofs.ConductKind.{conduct-asked}
 use Rattle.idle_engine.proofs.conduct.ConductedRunsConductHostPorts.asked_clock.Goals as goal
 
 pub returns-clause-run : goal.returns-clause-run

@@ -1,7 +1,7 @@
 use Rattle.std.proofs.Common.{arith}
 use Rattle.block_core.specs.Shown.{requests_of}
-use Rattle.idle_engine.proofs.Conducting.{conduct-kind}
-use Rattle.idle_engine.proofs.OneBlock.{none_before}
+use Rattle.idle_engine.proofs.ConductKind.{conduct-kind}
+use Rattle.idle_engine.proofs.OneKind.{none_before}
 use Rattle.idle_engine.proofs.conduct.ConductedRunsConductHostPorts.is_of_its_kind.Goals as goal
 
 pub returns-clause-kind : goal.returns-clause-kind

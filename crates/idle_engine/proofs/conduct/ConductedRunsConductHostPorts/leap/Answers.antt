@@ -1,6 +1,6 @@
 use Rattle.std.proofs.Common.{sym, ◌∙◌}
 use Rattle.idle_engine.specs.OneConduct.{Conducting}
-use Rattle.idle_engine.proofs.Conducting.{conduct-calm, conduct-from, moves_from}
+use Rattle.idle_engine.proofs.ConductKind.{conduct-calm, conduct-from, moves_from}
 use Rattle.idle_engine.proofs.conduct.ConductedRunsConductHostPorts.leap.Goals as goal
 
 pub leap-requires-clause-calm : goal.leap-requires-clause-calm

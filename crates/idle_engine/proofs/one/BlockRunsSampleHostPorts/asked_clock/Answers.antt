@@ -3,7 +3,7 @@ use Rattle.dreq_pacing.specs.declared.due.Due.{Due}
 use Rattle.dreq_pacing.specs.declared.due.Requests.{Requests}
 use Rattle.dreq_pacing.specs.Ports.{Ports, due_in, transfers_after}
 use Rattle.block_core.specs.Block.{next}
-use Rattle.idle_engine.proofs.OneBlock.{asked-next}
+use Rattle.idle_engine.proofs.OneKind.{asked-next}
 use Rattle.idle_engine.proofs.one.BlockRunsSampleHostPorts.asked_clock.Goals as goal
 
 pub returns-clause-run : goal.returns-clause-run

@@ -1,6 +1,6 @@
 use Rattle.std.proofs.Common.{arith}
 use Rattle.block_core.specs.Shown.{requests_of}
-use Rattle.idle_engine.proofs.OneBlock.{one-kind, none_before}
+use Rattle.idle_engine.proofs.OneKind.{one-kind, none_before}
 use Rattle.idle_engine.proofs.one.BlockRunsSampleHostPorts.is_of_its_kind.Goals as goal
 
 pub returns-clause-kind : goal.returns-clause-kind

@@ -43,7 +43,7 @@ pub record IsAfterLeap {H L V : Type 0} (k : RunKind H L V) (l : L) (c : Course 
   pub stirs : later < clocks → k.stirs l (c.at later) ≡ true
 
 -- the same from the run's own state on
-from_course : {H L V : Type 0} (k : RunKind H L V) → IsKind k → (l : L) (begin : H) (c : Course H V) → IsCourse k l begin c → ((n : ℕ) → k.in_clock (c.at n) n) → (b later until clocks : ℕ) (now : H) → b + 1 ≤ later → later ≤ until → IsUntil (k.acts l (c.at (b + 1))) clocks (b + 1) until → now ≡ k.quiet_from (c.at (b + 1)) (later - (b + 1)) → IsCalm k (c.at (b + 1)) (later - (b + 1)) → (later < until → k.moves now ≡ true) → IsAfterLeap k l c b later until clocks now
+from_course : {H L V : Type 0} (k : RunKind H L V) → IsKind k → (l : L) (begin : H) (c : Course H V) → IsCourse k l begin c → ((n : ℕ) → k.in_clock (c.at n) n) → (b later until clocks : ℕ) (now : H) → b + 1 ≤ later → later ≤ until → IsUntil (k.acts l (c.at (b + 1))) clocks (b + 1) until → now ≡ k.quiet_from (c.at (b + 1)) (later - (b + 1)) → IsCalm k (c.at (b + 1)) (later - (b + 1)) → (later < until → k.moves_on now ≡ true) → IsAfterLeap k l c b later until clocks now
 from_course {H} k laws l begin c course clocks_at b later until clocks now from to u is_now calm moves = record {
   run = run;
   rests = rests;
@@ -55,9 +55,9 @@ from_course {H} k laws l begin c course clocks_at b later until clocks now from 
       let e : j ≡ b + 1 + (j - (b + 1)) = omega arith in
       let at : c.at j ≡ k.quiet_from (c.at (b + 1)) (j - (b + 1)) = ap c.at e ∙ goes (j - (b + 1)) (omega arith) in
       laws.moving l (c.at j) j (clocks_at j) (ap (λ (h : H). k.acts l h j) at ∙ calm.asks (j - (b + 1)) (omega arith) l j ∙ u.rests j low (omega arith))
-      ∙ ap k.moves at ∙ calm.rests (j - (b + 1)) (omega arith);
+      ∙ ap k.moves_on at ∙ calm.rests (j - (b + 1)) (omega arith);
   stirs = λ below. elim (cases_lt later until) [
-    | inl lt ↦ laws.moving l (c.at later) later (clocks_at later) (acts later ∙ rests.rests later (omega arith) lt) ∙ sym (ap k.moves run) ∙ moves lt
+    | inl lt ↦ laws.moving l (c.at later) later (clocks_at later) (acts later ∙ rests.rests later (omega arith) lt) ∙ sym (ap k.moves_on run) ∙ moves lt
     | inr ge ↦ (let e : later ≡ until = omega arith in
         laws.acting l (c.at later) later (clocks_at later) (acts later ∙ ap (k.acts l now) e ∙ rests.passes (omega arith)))
   ];
@@ -81,9 +81,9 @@ from_course {H} k laws l begin c course clocks_at b later until clocks now from 
   acts : (n : ℕ) → k.acts l (c.at later) n ≡ k.acts l now n
   acts n = sym (ap (λ (h : H). k.acts l h n) run)
 
-pub after_leap : {H L V : Type 0} (k : RunKind H L V) → IsKind k → (l : L) (begin : H) (c : Course H V) → IsCourse k l begin c → ((n : ℕ) → k.in_clock (c.at n) n) → (b later until clocks : ℕ) (before now : H) → before ≡ c.at (b + 1) → b + 1 ≤ later → later ≤ until → IsUntil (k.acts l before) clocks (b + 1) until → now ≡ k.quiet_from before (later - (b + 1)) → IsCalm k before (later - (b + 1)) → (later < until → k.moves now ≡ true) → IsAfterLeap k l c b later until clocks now
+pub after_leap : {H L V : Type 0} (k : RunKind H L V) → IsKind k → (l : L) (begin : H) (c : Course H V) → IsCourse k l begin c → ((n : ℕ) → k.in_clock (c.at n) n) → (b later until clocks : ℕ) (before now : H) → before ≡ c.at (b + 1) → b + 1 ≤ later → later ≤ until → IsUntil (k.acts l before) clocks (b + 1) until → now ≡ k.quiet_from before (later - (b + 1)) → IsCalm k before (later - (b + 1)) → (later < until → k.moves_on now ≡ true) → IsAfterLeap k l c b later until clocks now
 after_leap {H} k laws l begin c course clocks_at b later until clocks before now is from to =
-    subst (λ (h : H). IsUntil (k.acts l h) clocks (b + 1) until → now ≡ k.quiet_from h (later - (b + 1)) → IsCalm k h (later - (b + 1)) → (later < until → k.moves now ≡ true) → IsAfterLeap k l c b later until clocks now)
+    subst (λ (h : H). IsUntil (k.acts l h) clocks (b + 1) until → now ≡ k.quiet_from h (later - (b + 1)) → IsCalm k h (later - (b + 1)) → (later < until → k.moves_on now ≡ true) → IsAfterLeap k l c b later until clocks now)
     (sym is)
     (from_course k laws l begin c course clocks_at b later until clocks now from to)
 

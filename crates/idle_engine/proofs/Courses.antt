@@ -12,9 +12,9 @@ use Rattle.block_core.specs.Twin.{TwinRun}
 use Rattle.idle_engine.specs.Kinds.{AreFirsts, IsCourse}
 use Rattle.idle_engine.specs.One.{one}
 use Rattle.idle_engine.specs.OneInside.{one_inside}
-use Rattle.idle_engine.specs.Two.{two}
-use Rattle.idle_engine.proofs.Growing.{firsts-from}
-use Rattle.idle_engine.proofs.Working.{worked-passing}
+use Rattle.idle_engine.specs.Twin.{twin}
+use Rattle.idle_engine.proofs.GrowingLists.{firsts-from}
+use Rattle.idle_engine.proofs.WorkedClocks.{worked-passing}
 
 -- one sample a clock, and one of each of two blocks
 pub samples-firsts : (start : Run) (lines : List Line) → AreFirsts (sample_at start lines) (samples start lines)
@@ -44,9 +44,9 @@ inside-course start lines p fresh first =
     let c = one-course start lines p fresh first in
     record { fresh = c.fresh; begins = c.begins; goes = c.goes; samples = insides-firsts start p.lines }
 
-pub two-course : (start : TwinRun) (first second : List Line) (p q : Ports) → start.first.clock ≡ 0 → start.second.clock ≡ 0 → p ≡ first_ports first → q ≡ first_ports second → IsCourse two (p.lines, q.lines) (record { own = start.own; first = record { run = start.first; transfers = p.transfers }; second = record { run = start.second; transfers = q.transfers } }) (record { at = hosted_twin_at start p.lines q.lines; samples = twin_samples start p.lines q.lines })
+pub twin-course : (start : TwinRun) (first second : List Line) (p q : Ports) → start.first.clock ≡ 0 → start.second.clock ≡ 0 → p ≡ first_ports first → q ≡ first_ports second → IsCourse twin (p.lines, q.lines) (record { own = start.own; first = record { run = start.first; transfers = p.transfers }; second = record { run = start.second; transfers = q.transfers } }) (record { at = hosted_twin_at start p.lines q.lines; samples = twin_samples start p.lines q.lines })
 unfolding hosted_twin_at
-two-course start first second p q fresh_first fresh_second is_first is_second = record {
+twin-course start first second p q fresh_first fresh_second is_first is_second = record {
   fresh = (fresh_first, fresh_second);
   begins = rw (ap (λ (p : Ports). p.transfers) is_first, ap (λ (p : Ports). p.transfers) is_second) refl;
   goes = λ n. refl;

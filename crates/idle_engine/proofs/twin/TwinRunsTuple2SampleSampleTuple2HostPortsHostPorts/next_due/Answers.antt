@@ -2,8 +2,8 @@ use Rattle.std.proofs.Common.{◌||◌, subst, sym}
 use Rattle.dreq_pacing.specs.declared.due.Requests.{Requests}
 use Rattle.dreq_pacing.specs.Ports.{acts_in}
 use Rattle.idle_engine.specs.Kinds.{IsUntil}
-use Rattle.idle_engine.proofs.TwoBlocks.{until_either}
-use Rattle.idle_engine.proofs.two.TwinRunsTuple2SampleSampleTuple2HostPortsHostPorts.next_due.Goals as goal
+use Rattle.idle_engine.proofs.TwinKind.{until_either}
+use Rattle.idle_engine.proofs.twin.TwinRunsTuple2SampleSampleTuple2HostPortsHostPorts.next_due.Goals as goal
 
 pub returns : goal.returns
 returns g c =

@@ -4,8 +4,8 @@ use Rattle.dreq_pacing.specs.declared.due.Requests.{Requests}
 use Rattle.dreq_pacing.specs.Ports.{Ports, due_in, transfers_after}
 use Rattle.block_core.specs.Shown.{requests_of}
 use Rattle.block_core.specs.Twin.{twin_next}
-use Rattle.idle_engine.proofs.TwoBlocks.{asked-next}
-use Rattle.idle_engine.proofs.two.TwinRunsTuple2SampleSampleTuple2HostPortsHostPorts.asked_clock.Goals as goal
+use Rattle.idle_engine.proofs.TwinKind.{asked-next}
+use Rattle.idle_engine.proofs.twin.TwinRunsTuple2SampleSampleTuple2HostPortsHostPorts.asked_clock.Goals as goal
 
 pub returns-clause-run : goal.returns-clause-run
 returns-clause-run g c =

@@ -1,7 +1,7 @@
 use Rattle.std.proofs.Common.{arith}
 use Rattle.dreq_pacing.specs.Due.{quiet}
 use Rattle.block_core.specs.Twin.{twin_from, twin_moves_on}
-use Rattle.idle_engine.proofs.two.TwinRunsTuple2SampleSampleTuple2HostPortsHostPorts.next_stir.Goals as goal
+use Rattle.idle_engine.proofs.twin.TwinRunsTuple2SampleSampleTuple2HostPortsHostPorts.next_stir.Goals as goal
 
 pub returns : goal.returns
 returns g c =

@@ -1,6 +1,6 @@
 //! A run of two blocks on one set of pins, each with its stimulus.
 ghost use Rattle.std.specs.Prelude.{◌≡◌, ◌≤◌, List};
-ghost use Rattle.idle_engine.specs.Two.{two};
+ghost use Rattle.idle_engine.specs.Twin.{twin};
 
 use crate::kind::{Runs, until};
 use block_core::{
@@ -14,18 +14,23 @@ use std::borrow::Cow;
 impl<'a, F: Fifo> Runs<(Sample, Sample), (HostPorts<'a>, HostPorts<'a>)> for Twin<F> {
     ghost use Rattle.dreq_pacing.specs.declared.line.Line.{Line};
     ghost use Rattle.dreq_pacing.specs.Lines.{NoneBetween};
-    ghost use Rattle.block_core.specs.HostedTwin.{HostedTwin};
+    ghost use Rattle.block_core.specs.HostedTwin.{HostedTwin, hosted_twin_at, twin_samples};
 
     ghost Hosted = { HostedTwin };
 
     ghost Lines = { List Line × List Line };
 
-    ghost kind = { two };
+    ghost kind = { twin };
 
     ghost hosted = { λ b p. record {
       own = b.twin.own;
       first = record { run = b.twin.first; transfers = p.0.transfers };
       second = record { run = b.twin.second; transfers = p.1.transfers };
+    } };
+
+    ghost course = { λ b p. record {
+      at = hosted_twin_at b.twin p.0.lines p.1.lines;
+      samples = twin_samples b.twin p.0.lines p.1.lines;
     } };
 
     ghost lines = { λ p. (p.0.lines, p.1.lines) };
@@ -60,7 +65,7 @@ impl<'a, F: Fifo> Runs<(Sample, Sample), (HostPorts<'a>, HostPorts<'a>)> for Twi
         let (first, second) = Twin::quiet_clock(self);
         News {
             fifos: first.fifos | second.fifos,
-            sample: first.sample | second.sample,
+            shown: first.shown | second.shown,
         }
     }
 

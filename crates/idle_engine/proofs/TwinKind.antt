@@ -13,8 +13,8 @@ use Rattle.block_core.specs.Shown.{requests_of}
 use Rattle.block_core.specs.Stirring.{moves_on_over}
 use Rattle.block_core.specs.Twin.{TwinRun, twin_next, twin_from, twin_pads_in, twin_moves_on, twin_uses_fifos_in}
 use Rattle.idle_engine.specs.Kinds.{IsKind, IsUntil}
-use Rattle.idle_engine.specs.Two.{two}
-use Rattle.idle_engine.proofs.OneBlock.{QuietDue, QuietTransfers, DoesNothing, does_nothing}
+use Rattle.idle_engine.specs.Twin.{twin}
+use Rattle.idle_engine.proofs.OneKind.{QuietDue, QuietTransfers, DoesNothing, does_nothing}
 
 pub neither : (a b : Bool) → (a || b) ≡ false → (a ≡ false) × (b ≡ false)
 neither false b h = (refl, h)
@@ -28,14 +28,14 @@ either_acts false true false n h = refl
 either_acts false false m n h = cc
 
 -- it does nothing at both
-both_rest : QuietDue → QuietTransfers → (lines : List Line × List Line) (h : HostedTwin) (n : ℕ) → two.in_clock h n → two.acts lines h n ≡ false → DoesNothing lines.0 h.first × DoesNothing lines.1 h.second
+both_rest : QuietDue → QuietTransfers → (lines : List Line × List Line) (h : HostedTwin) (n : ℕ) → twin.in_clock h n → twin.acts lines h n ≡ false → DoesNothing lines.0 h.first × DoesNothing lines.1 h.second
 both_rest quiet_due quiet_transfers lines h n in_clock rests =
     let e = neither (acts_in lines.0 n (requests_of h.first.run.state) h.first.transfers) (acts_in lines.1 n (requests_of h.second.run.state) h.second.transfers) rests in
     (does_nothing quiet_due quiet_transfers lines.0 h.first n in_clock.0 e.0, does_nothing quiet_due quiet_transfers lines.1 h.second n in_clock.1 e.1)
 
-pub two-kind : QuietDue → QuietTransfers → IsKind two
+pub twin-kind : QuietDue → QuietTransfers → IsKind twin
 unfolding hosted_twin_next twin_next twin_from twin_stirs_in twin_moves_on
-two-kind quiet_due quiet_transfers = record {
+twin-kind quiet_due quiet_transfers = record {
   later = λ lines h n in_clock. (ap (λ (k : ℕ). k + 1) in_clock.0, ap (λ (k : ℕ). k + 1) in_clock.1);
   quiet = λ lines h n in_clock rests.
       let d = both_rest quiet_due quiet_transfers lines h n in_clock rests in
@@ -58,7 +58,7 @@ two-kind quiet_due quiet_transfers = record {
 }
 
 -- a clock for which the ports of both are asked
-pub asked-next : (lines : List Line × List Line) (h : HostedTwin) (n : ℕ) (t : TwinRun) (x y : Transfers) → two.in_clock h n → t ≡ twin_next (due_in lines.0 n (requests_of h.first.run.state) h.first.transfers) (due_in lines.1 n (requests_of h.second.run.state) h.second.transfers) (twin_of h) → x ≡ transfers_after lines.0 n (requests_of h.first.run.state) h.first.transfers → y ≡ transfers_after lines.1 n (requests_of h.second.run.state) h.second.transfers → record { own = t.own; first = record { run = t.first; transfers = x }; second = record { run = t.second; transfers = y } } ≡ hosted_twin_next lines.0 lines.1 h
+pub asked-next : (lines : List Line × List Line) (h : HostedTwin) (n : ℕ) (t : TwinRun) (x y : Transfers) → twin.in_clock h n → t ≡ twin_next (due_in lines.0 n (requests_of h.first.run.state) h.first.transfers) (due_in lines.1 n (requests_of h.second.run.state) h.second.transfers) (twin_of h) → x ≡ transfers_after lines.0 n (requests_of h.first.run.state) h.first.transfers → y ≡ transfers_after lines.1 n (requests_of h.second.run.state) h.second.transfers → record { own = t.own; first = record { run = t.first; transfers = x }; second = record { run = t.second; transfers = y } } ≡ hosted_twin_next lines.0 lines.1 h
 unfolding hosted_twin_next twin_next
 asked-next lines h n t x y in_clock is_t is_x is_y = rw (is_t, is_x, is_y, in_clock.0, in_clock.1) refl
 

@@ -1,13 +1,13 @@
 use Rattle.std.proofs.Common.{arith}
 use Rattle.dreq_pacing.specs.Ports.{acts_in}
 use Rattle.block_core.specs.Shown.{requests_of}
-use Rattle.idle_engine.proofs.OneBlock.{none_before}
-use Rattle.idle_engine.proofs.TwoBlocks.{two-kind, neither}
-use Rattle.idle_engine.proofs.two.TwinRunsTuple2SampleSampleTuple2HostPortsHostPorts.is_of_its_kind.Goals as goal
+use Rattle.idle_engine.proofs.OneKind.{none_before}
+use Rattle.idle_engine.proofs.TwinKind.{twin-kind, neither}
+use Rattle.idle_engine.proofs.twin.TwinRunsTuple2SampleSampleTuple2HostPortsHostPorts.is_of_its_kind.Goals as goal
 
 pub returns-clause-kind : goal.returns-clause-kind
 returns-clause-kind g c =
-    two-kind c.a_clock_without_acts_does_nothing.ensures.due c.a_clock_without_acts_does_nothing.ensures.transfers
+    twin-kind c.a_clock_without_acts_does_nothing.ensures.due c.a_clock_without_acts_does_nothing.ensures.transfers
 
 pub returns-clause-waits : goal.returns-clause-waits
 returns-clause-waits g c = λ p h n m ready le rests. (

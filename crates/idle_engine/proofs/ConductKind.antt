@@ -15,7 +15,7 @@ use Rattle.block_core.specs.Stirring.{moves_on}
 use Rattle.idle_engine.specs.Kinds.{AreFirsts, IsCalm, IsCourse, IsKind, IsUntil}
 use Rattle.idle_engine.specs.One.{one}
 use Rattle.idle_engine.specs.OneConduct.{Conducting, conducting_from, conducting_next, one_conduct}
-use Rattle.idle_engine.proofs.OneBlock.{QuietDue, QuietTransfers, asked-next, does_nothing, one-kind}
+use Rattle.idle_engine.proofs.OneKind.{QuietDue, QuietTransfers, asked-next, does_nothing, one-kind}
 
 pub conduct-kind : QuietDue → QuietTransfers → IsKind one_conduct
 unfolding conducting_from
@@ -44,8 +44,8 @@ unfolding conducting_from run_from
 hosted_from h zero = refl
 hosted_from h (suc n) = ap (λ (b : Hosted). one.quiet_next b) (hosted_from h n)
 
-pub moves_from : (h : Conducting) (n : ℕ) → one_conduct.moves (one_conduct.quiet_from h n) ≡ moves_on quiet (run_from h.hosted.run (λ c. quiet) n)
-moves_from h n = ap (λ (b : Hosted). one.moves b) (hosted_from h n)
+pub moves_from : (h : Conducting) (n : ℕ) → one_conduct.moves_on (one_conduct.quiet_from h n) ≡ moves_on quiet (run_from h.hosted.run (λ c. quiet) n)
+moves_from h n = ap (λ (b : Hosted). one.moves_on b) (hosted_from h n)
 
 -- and where none of them is of note, what is told stays
 pub last_from : (h : Conducting) (n : ℕ) → ((k : ℕ) → k < n → is_noted quiet (run_from h.hosted.run (λ c. quiet) k) ≡ false) → (conducting_from h n).last ≡ h.last

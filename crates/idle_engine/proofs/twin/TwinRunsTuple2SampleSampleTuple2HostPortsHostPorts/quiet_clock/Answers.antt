@@ -1,6 +1,6 @@
 use Rattle.std.proofs.Common.{refl}
-use Rattle.idle_engine.proofs.TwoBlocks.{both-ask}
-use Rattle.idle_engine.proofs.two.TwinRunsTuple2SampleSampleTuple2HostPortsHostPorts.quiet_clock.Goals as goal
+use Rattle.idle_engine.proofs.TwinKind.{both-ask}
+use Rattle.idle_engine.proofs.twin.TwinRunsTuple2SampleSampleTuple2HostPortsHostPorts.quiet_clock.Goals as goal
 
 pub returns-clause-asks : goal.returns-clause-asks
 returns-clause-asks g c = λ none l n.
