@@ -8,7 +8,7 @@ use Rattle.block_core.specs.Sample.{bits_of, same_numbers}
 use Rattle.vcd_trace.specs.VcdText.{Variable, declaration, declarations, scope_text, value_lines, change_lines, values_over, changes_over, vector_line}
 use Rattle.vcd_trace.specs.Groups.{bit_lines, bit_changes, vector_lines, vector_changes}
 use Rattle.vcd_trace.specs.InsideText.{bit_of, inside_changes_text, inside_dump_text, inside_header_text, machine_changes, machine_lines, machine_scope, machine_scopes, machine_values, machine_variables, machine_widths, machines_changes, machines_lines, named, pad_changes, pad_lines, pad_variables, pads_scope, scope_of}
-use Rattle.vcd_trace.specs.InsideGroups.{flags_of, further_changes, long_of, machine_variable, place_of, register_changes, registers_of, same_registers, short_of, words_of}
+use Rattle.vcd_trace.specs.InsideGroups.{flags_of, long_of, machine_variable, place_of, register_changes, registers_of, same_registers, short_of, words_of}
 use Rattle.vcd_trace.specs.declared.inside_header.TheConstants.{WIDTHS}
 use Rattle.vcd_trace.proofs.TextLaws.{bit_changes-same, change_lines-append, one_line, value_lines-append}
 use Rattle.vcd_trace.proofs.ChangesLaws.{both_true, change_lines-vectors, same_numbers-equal, value_lines-vectors, vector_changes-none}
@@ -107,11 +107,6 @@ place-both id a b h k =
     ∙ ap (λ (x : List ℕ). vector_line id b.pc ++ (x ++ [])) (one_line a.instruction b.instruction (vector_line (id + 1) b.instruction) k)
     ∙ ap (λ (x : List ℕ). vector_line id b.pc ++ x) (append-nil (vector_line (id + 1) b.instruction))
 
--- the line of the one, then that of the other
-pub place-parts : (id : ℕ) (a b : MachineInside) → vector_changes id (place_of a) (place_of b) ≡ cond (eqb a.pc b.pc) [] (vector_line id b.pc) ++ cond (eqb a.instruction b.instruction) [] (vector_line (id + 1) b.instruction)
-place-parts id a b =
-    ap (λ (x : List ℕ). cond (eqb a.pc b.pc) [] (vector_line id b.pc) ++ x) (append-nil (cond (eqb a.instruction b.instruction) [] (vector_line (id + 1) b.instruction)))
-
 -- where all else is the same, it has no lines
 pub registers-none : (id : ℕ) (a b : MachineInside) → same_registers a b ≡ true → register_changes id a b ≡ []
 registers-none id a b h =
@@ -141,13 +136,6 @@ inside_dump-parts s =
     ∙ ap (λ (x : List ℕ). codes "$dumpvars\n" ++ (values_over 0 s.sample ++ (x ++ (machines_lines 0 s.machines ++ codes "$end\n")))) (pads-lines s.pads)
 
 -- the sample, then the pads and the machines
-pub inside_changes-further : (a b : Inside) → inside_changes_text a b ≡ changes_over 0 a.sample b.sample ++ further_changes a b
-unfolding inside_changes_text
-inside_changes-further a b = append_assoc (changes_over 0 a.sample b.sample) (pad_changes a.pads b.pads) (machines_changes 0 a.machines b.machines)
-
-pub further-parts : (a b : Inside) → further_changes a b ≡ bit_changes 161 32 a.pads b.pads ++ machines_changes 0 a.machines b.machines
-further-parts a b = ap (λ (x : List ℕ). x ++ machines_changes 0 a.machines b.machines) (pads-changes a.pads b.pads)
-
 pub inside_changes-parts : (a b : Inside) → inside_changes_text a b ≡ changes_over 0 a.sample b.sample ++ (bit_changes 161 32 a.pads b.pads ++ machines_changes 0 a.machines b.machines)
 unfolding inside_changes_text
 inside_changes-parts a b =

@@ -21,9 +21,8 @@ use Rattle.vcd_trace.proofs.FormLaws.{AddsNothing, one_put, one_breaks, end_put,
 use Rattle.vcd_trace.proofs.ToldLaws.{and_true, same_numbers-self, same_sample-self, same_sample-equal}
 use Rattle.vcd_trace.proofs.ChangesLaws.{both_true, length-bits_of, same_numbers-equal}
 use Rattle.vcd_trace.proofs.SilenceLaws.{bits_of-same, change_lines-none, changes_over-some, first_none, last_none}
-use Rattle.vcd_trace.specs.InsideGroups.{further_changes, same_further, with_further}
 use Rattle.vcd_trace.proofs.TextLaws.{change_lines-same}
-use Rattle.vcd_trace.proofs.InsideLaws.{inside_changes-further, inside_changes-parts}
+use Rattle.vcd_trace.proofs.InsideLaws.{inside_changes-parts}
 
 -- ---- the same is inside
 
@@ -47,35 +46,25 @@ inside_repeats_add-nothing configured clock s = ap (λ (b : Bool). cond b [] (cl
 pub inside_step-changed : (clock : ℕ) (a b : Inside) → same_inside a b ≡ false → inside_step_text clock a b ≡ clock_line clock ++ inside_changes_text a b
 inside_step-changed clock a b h = ap (λ (t : Bool). cond t [] (clock_line clock ++ inside_changes_text a b)) h
 
--- where the sample is another one, there are its changes, then those of the pads and the machines
-pub inside_step-seen : (clock : ℕ) (a b : Inside) → same_sample a.sample b.sample ≡ false → inside_step_text clock a b ≡ clock_line clock ++ (changes_over 0 a.sample b.sample ++ further_changes a b)
-inside_step-seen clock a b h =
-    inside_step-changed clock a b (ap (λ (t : Bool). t && same_further a b) h) ∙ ap (λ (x : List ℕ). clock_line clock ++ x) (inside_changes-further a b)
+-- the line, then the changes one by one
+pub inside_step-parts : (clock : ℕ) (a b : Inside) → same_inside a b ≡ false
+    → inside_step_text clock a b ≡ clock_line clock ++ (changes_over 0 a.sample b.sample ++ (bit_changes 161 32 a.pads b.pads ++ machines_changes 0 a.machines b.machines))
+inside_step-parts clock a b h = inside_step-changed clock a b h ∙ ap (λ (x : List ℕ). clock_line clock ++ x) (inside_changes-parts a b)
 
--- where it is shown again, and the rest is the same, there is nothing
-pub inside_step-same : (clock : ℕ) (a b : Inside) → same_sample a.sample b.sample ≡ true → same_further a b ≡ true → inside_step_text clock a b ≡ []
-inside_step-same clock a b h k = ap (λ (t : Bool). cond t [] (clock_line clock ++ inside_changes_text a b)) (and_true _ _ h k)
+-- where the same is inside, there is nothing
+pub inside_step-same : (clock : ℕ) (a b : Inside) → same_inside a b ≡ true → inside_step_text clock a b ≡ []
+inside_step-same clock a b h = ap (λ (t : Bool). cond t [] (clock_line clock ++ inside_changes_text a b)) h
 
 -- a sample that is shown again has no changes
 pub changes_over-same : (more : ℕ) (s : Sample) → changes_over more s s ≡ []
 unfolding changes_over
 changes_over-same more s = change_lines-same (33 + more) widths (values_of s)
 
--- where it is shown again alone, there are the changes of the pads and the machines
-pub inside_step-unseen : (clock : ℕ) (a b : Inside) → same_sample a.sample b.sample ≡ true → same_further a b ≡ false → inside_step_text clock a b ≡ clock_line clock ++ further_changes a b
-inside_step-unseen clock a b h k =
-    let sample : b.sample ≡ a.sample = sym (same_sample-equal a.sample b.sample h) in
-    inside_step-changed clock a b (ap (λ (t : Bool). t && same_further a b) h ∙ k)
-    ∙ ap (λ (x : List ℕ). clock_line clock ++ x) (inside_changes-further a b
-    ∙ ap (λ (t : Sample). changes_over 0 a.sample t ++ further_changes a b) sample
-    ∙ ap (λ (x : List ℕ). x ++ further_changes a b) (changes_over-same 0 a.sample))
-
--- with the sample, the pads and the machines of another, it is that
-pub further-kept : (last now : Inside) (s : Sample) → s ≡ now.sample → with_further (record { sample = s; pads = last.pads; machines = last.machines }) now ≡ now
-further-kept last now s e =
-    let one : Inside = record { sample = s; pads = now.pads; machines = now.machines } in
+-- with the sample, the pads and the machines of a clock, it is what is inside then
+pub inside-whole : (now : Inside) (s : Sample) → s ≡ now.sample → record { sample = s; pads = now.pads; machines = now.machines } ≡ now
+inside-whole now s e =
     let two : Inside = record { sample = now.sample; pads = now.pads; machines = now.machines } in
-    let same : one ≡ two = cc in
+    let same : record { sample = s; pads = now.pads; machines = now.machines } ≡ two = cc in
     same
 
 -- a Boolean is known by its bit

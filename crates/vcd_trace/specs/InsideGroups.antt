@@ -1,11 +1,10 @@
 -- What the variables and the values of what is inside are by their kind: words of private clauses.
-use Rattle.std.specs.Prelude.{ℕ, ◌+◌, ◌*◌, ◌==◌, ◌&&◌, Bool, List, [], ◌∷◌, ◌++◌, get_or}
+use Rattle.std.specs.Prelude.{ℕ, ◌+◌, ◌*◌, ◌&&◌, Bool, List, [], ◌∷◌, ◌++◌, get_or}
 use Rattle.block_core.specs.declared.inside.MachineInside.{MachineInside}
-use Rattle.block_core.specs.declared.inside.Inside.{Inside}
 use Rattle.block_core.specs.Sample.{same_numbers}
 use Rattle.vcd_trace.specs.VcdText.{Variable}
 use Rattle.vcd_trace.specs.Groups.{bit_changes, vector_changes}
-use Rattle.vcd_trace.specs.InsideText.{bit_of, machine_variables, machines_changes, named, pad_changes, same_machines}
+use Rattle.vcd_trace.specs.InsideText.{bit_of, machine_variables, named}
 
 -- a variable of a machine, by its place in their order
 unfoldable pub machine_variable : ℕ → Variable
@@ -46,15 +45,3 @@ same_registers before now = same_numbers (long_of before) (long_of now) && same_
 -- what a clock changes of these, whose numbers count on from one
 abbrev pub register_changes : ℕ → (before now : MachineInside) → List ℕ
 register_changes id before now = vector_changes id (registers_of before) (registers_of now) ++ bit_changes (id + 6) 2 (flags_of before) (flags_of now)
-
--- what a clock changes of the pads and of the machines
-abbrev pub further_changes : (before now : Inside) → List ℕ
-further_changes before now = pad_changes before.pads now.pads ++ machines_changes 0 before.machines now.machines
-
--- the same is at the pads and inside the machines
-abbrev pub same_further : (before now : Inside) → Bool
-same_further before now = (before.pads == now.pads) && same_machines before.machines now.machines
-
--- the one with the pads and machines of the other
-abbrev pub with_further : (before now : Inside) → Inside
-with_further before now = record before { pads = now.pads; machines = now.machines }

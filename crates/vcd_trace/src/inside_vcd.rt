@@ -3,18 +3,15 @@ ghost use Rattle.std.specs.Prelude.{◌≡◌, ℕ, Bool, List, Option, true, fa
 ghost use Rattle.pio_edge.specs.Edge.{Takes, PutCounts, TakesPrefix};
 ghost use Rattle.vcd_trace.specs.TextForm.{HasPut};
 ghost use Rattle.vcd_trace.specs.InsideText.{inside_dump_text, inside_form, inside_open_text, inside_step_text};
-ghost use Rattle.block_core.specs.Sample.{same_sample};
-ghost use Rattle.vcd_trace.specs.InsideText.{inside_text_of};
-ghost use Rattle.vcd_trace.specs.InsideGroups.{same_further};
+ghost use Rattle.vcd_trace.specs.InsideText.{inside_text_of, same_inside};
 ghost use Rattle.vcd_trace.specs.InsideTold.{added_inside, ended_inside, told_first};
 
-use crate::changes::put_next;
-use crate::clock_line::ClockLine;
-use crate::inside_changes::put_further;
+use crate::changes::{put_changed_bits, put_next};
 use crate::inside_dump::put_inside_dump;
 use crate::inside_header::put_inside_header;
 use crate::line::put_clock;
 use crate::usual::Rooms;
+use crate::variable::PAD;
 use crate::vcd::is_same;
 use block_core::Inside;
 use pio_edge::{Sink, SinkFailed};
@@ -163,7 +160,7 @@ fn put_step<S: Sink>(
     ensures kept { OnOk result (last.new ≡ now.now) }
 {
     let Some(start) = rooms.write(clock, last, now) else {
-        return put_others(sink, &mut rooms.line, clock, last, now);
+        return put_others(sink, rooms, clock, last, now);
     };
     sink.put(&rooms.room[start..])?;
     last.sample.level = now.sample.level;
@@ -172,11 +169,11 @@ fn put_step<S: Sink>(
     Ok(())
 }
 
-// The same where more may change than in a usual clock, line by line. A call of its own, which keeps the usual way short.
+// The same where more may change than in a usual clock. A call of its own, which keeps the usual way short.
 #[inline(never)]
 fn put_others<S: Sink>(
     sink: &mut S,
-    line: &mut ClockLine,
+    rooms: &mut Rooms,
     clock: u64,
     last: &mut Inside,
     now: &Inside,
@@ -185,33 +182,16 @@ fn put_others<S: Sink>(
     ensures cause { PutCounts (S.faults sink.old) (S.faults sink.new) result }
     ensures kept { OnOk result (last.new ≡ now.now) }
 {
-    if is_same(&last.sample, &now.sample) {
-        return put_unseen(sink, line, clock, last, now);
-    }
-    line.put(sink, clock)?;
-    put_next(sink, &mut last.sample, &now.sample)?;
-    put_further(sink, last, now)
-}
-
-// The same where its sample is shown again. A call of its own, since a run has no registers for both.
-#[inline(never)]
-fn put_unseen<S: Sink>(
-    sink: &mut S,
-    line: &mut ClockLine,
-    clock: u64,
-    last: &mut Inside,
-    now: &Inside,
-) -> Result<(), SinkFailed>
-    requires { same_sample last.old.sample now.now.sample ≡ true }
-    ensures bytes { Takes (S.taken sink.old) (inside_step_text clock last.old now.now) (S.taken sink.new) result }
-    ensures cause { PutCounts (S.faults sink.old) (S.faults sink.new) result }
-    ensures kept { OnOk result (last.new ≡ now.now) }
-{
-    if has_same_further(last, now) {
+    if is_same_inside(last, now) {
         return Ok(());
     }
-    line.put(sink, clock)?;
-    put_further(sink, last, now)
+    rooms.line.put(sink, clock)?;
+    put_next(sink, &mut last.sample, &now.sample)?;
+    put_changed_bits(sink, PAD, 32, last.pads, now.pads)?;
+    rooms.put_machines(sink, &last.machines, &now.machines)?;
+    last.pads = now.pads;
+    last.machines = now.machines;
+    Ok(())
 }
 
 // What the end adds after what was told last.
@@ -225,10 +205,12 @@ fn put_end<S: Sink>(sink: &mut S, clock: u64, last: &Option<Inside>) -> Result<(
     }
 }
 
-// Whether the same is at the pads and inside the machines.
+// Whether the same is inside as before.
 #[inline(always)]
-fn has_same_further(before: &Inside, now: &Inside) -> bool
-    ensures { result ≡ same_further before.now now.now }
+fn is_same_inside(before: &Inside, now: &Inside) -> bool
+    ensures { result ≡ same_inside before.now now.now }
 {
-    before.pads == now.pads && before.machines == now.machines
+    is_same(&before.sample, &now.sample)
+        && before.pads == now.pads
+        && before.machines == now.machines
 }

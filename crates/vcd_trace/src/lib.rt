@@ -6,7 +6,6 @@ mod changes;
 mod clock_line;
 mod dump;
 mod header;
-mod inside_changes;
 mod inside_dump;
 mod inside_header;
 mod inside_laws;

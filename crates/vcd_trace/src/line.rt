@@ -74,24 +74,6 @@ pub(crate) fn put_vector<S: Sink>(sink: &mut S, id: u8, value: u32) -> Result<()
     sink.put(&line[start..])
 }
 
-/// The lines of two values of more bits, whose numbers follow each other, as one piece.
-#[inline(always)]
-pub(crate) fn put_two_vectors<S: Sink>(
-    sink: &mut S,
-    id: u8,
-    one: u32,
-    two: u32,
-) -> Result<(), SinkFailed>
-    requires { id + 2 ≤ 256 }
-    ensures bytes { Takes (S.taken sink.old) (vector_line id one ++ vector_line (id + 1) two) (S.taken sink.new) result }
-    ensures cause { PutCounts (S.faults sink.old) (S.faults sink.new) result }
-{
-    let mut lines = [0; 2 * LINE_ROOM];
-    let second = write_vector(&mut lines, 2 * LINE_ROOM, id + 1, two);
-    let start = write_vector(&mut lines, second, id, one);
-    sink.put(&lines[start..])
-}
-
 /// Room for `b`, the 32 digits of a word, a blank, the identifier of up to two characters and the newline.
 pub(crate) const LINE_ROOM: usize = 37;
 

@@ -1,6 +1,7 @@
 //! What most clocks add to a trace of what is inside a block, gathered in a room and put as one piece: the
-//! clock's line, and the lines of a level, of a pad and of machines.
+//! clock's line, and the lines of a level, of a pad and of machines. In other clocks those of the machines alone.
 ghost use Rattle.std.specs.Prelude.{◌≡◌, ◌+◌, ◌-◌, ◌*◌, ◌^◌, ◌<◌, ◌≤◌, ◌==◌, ◌++◌, [], Some, true, IfSome, drop, if◌then◌else◌, length};
+ghost use Rattle.pio_edge.specs.Edge.{Takes, PutCounts};
 ghost use Rattle.vcd_trace.specs.VcdText.{bit_line, changes_over, vector_line};
 ghost use Rattle.vcd_trace.specs.Groups.{bit_changes, same_rest, vector_changes};
 ghost use Rattle.vcd_trace.specs.InsideText.{bit_of, inside_step_text, machine_changes, machines_changes};
@@ -8,11 +9,12 @@ ghost use Rattle.vcd_trace.specs.InsideGroups.{counts_of, place_of, register_cha
 ghost use Rattle.vcd_trace.specs.PlaceText as spec;
 
 use crate::clock_line::ClockLine;
-use crate::inside_changes::has_same_registers;
 use crate::line::{CLOCK_ROOM, LINE_ROOM, write_bit, write_vector};
+use crate::machine::has_same_registers;
 use crate::place_lines::Places;
 use crate::variable::{LEVEL, MACHINE, MACHINE_VALUES, PAD};
 use block_core::{Inside, MachineInside, Sample};
+use pio_edge::{Sink, SinkFailed};
 
 /// Room for the lines of a usual clock: its own, one of a level, one of a pad, and the lines of four machines.
 pub(crate) const ROOM: usize = CLOCK_ROOM + 4 + 4 + 4 * MACHINE_ROOM;
@@ -57,6 +59,24 @@ impl Rooms {
             return None;
         }
         Some(self.line.write(&mut self.room, end))
+    }
+
+    /// Puts the lines of the machines' values that are not what they were, as one piece.
+    pub(crate) fn put_machines<S: Sink>(
+        &mut self,
+        sink: &mut S,
+        before: &[Option<MachineInside>; 4],
+        now: &[Option<MachineInside>; 4],
+    ) -> Result<(), SinkFailed>
+        ensures bytes { Takes (S.taken sink.old) (machines_changes 0 before.now now.now) (S.taken sink.new) result }
+        ensures cause { PutCounts (S.faults sink.old) (S.faults sink.new) result }
+    {
+        let start = write_machines(&mut self.room, &mut self.places, before, now);
+        let lines = &self.room[start..];
+        if lines.is_empty() {
+            return Ok(());
+        }
+        sink.put(lines)
     }
 
     // Writes the lines of what changes.

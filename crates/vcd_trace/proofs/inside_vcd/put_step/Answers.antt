@@ -2,7 +2,7 @@ use Rattle.std.proofs.Common.{sym, ap, ◌∙◌, [], append-nil, arith}
 use Rattle.pio_edge.specs.Edge.{with_bytes}
 use Rattle.pio_edge.proofs.PutLaws.{going_begins, takes_failed}
 use Rattle.vcd_trace.proofs.ChangesLaws.{same_rest-equal}
-use Rattle.vcd_trace.proofs.InsideSame.{further-kept}
+use Rattle.vcd_trace.proofs.InsideSame.{inside-whole}
 use Rattle.vcd_trace.proofs.PlaceLaws.{rest-of-room}
 use Rattle.vcd_trace.proofs.inside_vcd.put_step.Goals as goal
 
@@ -17,4 +17,4 @@ returns-clause-bytes g c =
     c.in_ok-put.ensures.bytes ∙ ap (with_bytes (g.S.Sink.taken c.args.sink.now)) text
 
 pub returns-clause-kept : goal.returns-clause-kept
-returns-clause-kept g c = further-kept c.args.last.now c.args.now.now _ (same_rest-equal c.args.last.now.sample c.args.now.now.sample c.in-Some.ensures.rest)
+returns-clause-kept g c = inside-whole c.args.now.now _ (same_rest-equal c.args.last.now.sample c.args.now.now.sample c.in-Some.ensures.rest)
