@@ -1,5 +1,5 @@
 -- From what a run reads to a span of its setup, and on to the rows of a table file.
-use Rattle.std.proofs.Common.{◌≡◌, ◌∙◌, ℕ, Option, Some, None, IfSome, List, [], ◌∷◌, ◌++◌, Result, Ok, Err, option_map, refl, sym, ap}
+use Rattle.std.proofs.Common.{◌≡◌, ◌∙◌, ℕ, Option, Some, None, IfSome, List, [], ◌∷◌, Ok, Err, option_map, refl, sym, ap}
 use Rattle.pio_edge.specs.Edge.{Files}
 use Rattle.pio_edge.specs.declared.shelf.Shelf.{Ghosts as ShelfSeen}
 use Rattle.pin_matrix.specs.Followed.{followed}
@@ -15,7 +15,7 @@ use Rattle.stages.specs.Judged.{Judged, right, wrong, and_then, is_right, prepar
 use Rattle.stages.specs.Named.{named_from, span_named}
 use Rattle.stages.specs.Stages.{KeepsPlan, ReadFails, Shelved, run_plan, span_plan, table_plan, recheck_plan}
 use Rattle.stages.proofs.Asking.{asks_first, stops_first, stops_last}
-use Rattle.stages.proofs.Parts.{Went, told, of_all, goes_on, went_nowhere, went_on, came_to, goes_right, fails_after, fails_further, gives_further}
+use Rattle.stages.proofs.Parts.{told, of_all, goes_on, went_nowhere, went_on, came_to, goes_right, fails_after, fails_further, gives_further}
 
 -- what a run comes to decides what is said of the span of a name
 span_of : (f : Files) (source : List ℕ) (config : Option (List ℕ)) (name : List ℕ) (j : Judged (Setup × List Line)) → prepared_at f source config None ≡ j
