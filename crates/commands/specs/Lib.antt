@@ -10,7 +10,7 @@ pub mod Obeys
 pub mod Steps
 pub mod Written
 pub mod Passed
-pub mod Verdicts
+pub mod Does
 pub mod Tables
 pub mod Lines
 pub mod Metered

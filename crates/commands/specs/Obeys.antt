@@ -16,7 +16,7 @@ use Rattle.commands.specs.Worked.{most_worked}
 pub record Obeys {F O : Type 0} (order : Order) (shelf : ShelfSeen F) (out : SinkSeen O) (shelf_before shelf_after : F) (out_before out_after : O)
     (steps_before steps_after : ℕ) (result : Result (Unit {0}) Fault) : Type 0 where
   pub ends : CommandEnds (asked_by order) (call_by shelf out shelf_before shelf_after out_before out_after) result
-  pub asked : CommandAsks (asked_by order) (shelf.fetched shelf_before) (shelf.fetched shelf_after) result
+  pub fetched : CommandAsks (asked_by order) (shelf.fetched shelf_before) (shelf.fetched shelf_after) result
   pub same : shelf.holds shelf_after ≡ shelf.holds shelf_before
   pub worked : steps_after ≤ steps_before + most_worked (shelf.holds shelf_before) (asked_by order)
 

@@ -1,7 +1,7 @@
 -- What a call has done that ended with status 0: a record for each command, over known files. Each is a law from `Passes`.
 --   Passed          the files are known, and the command kept its promise, without a fault
 --   AsmPassed ..    what the command then read, wrote, and what holds of it
-use Rattle.std.specs.Prelude.{◌≡◌, ℕ, ◌≤◌, Bool, Option, Some, None, is_some, List, length, map, Result}
+use Rattle.std.specs.Prelude.{◌≡◌, ℕ, ◌≤◌, Bool, Option, Some, None, is_some, List, [], length, map, Result}
 use Rattle.std.specs.FinMap.{get}
 use Rattle.std.specs.List.{flat_map}
 use Rattle.pio_edge.specs.Edge.{Files}
@@ -76,8 +76,7 @@ pub record PairPassed (c : Call) (files : Files) (source config second : List �
 -- `check`: it wrote a line for each span of the setup, with its verdict, and each span holds in every run
 pub record CheckPassed (c : Call) (files : Files) (source : List ℕ) (config : Option (List ℕ)) : Type 0 where
   pub setup : Setup
-  pub lines : List Line
-  pub given : prepared_at files source config None ≡ right (setup, lines)
+  pub given : prepared_at files source config None ≡ right (setup, [])
   pub found : List (Result Finding Refusal)
   pub verdicts : AreVerdicts setup setup.spans found
   pub wrote : Writing c (verdict_text setup.spans found)
@@ -140,8 +139,7 @@ pub record UartPassed (c : Call) (files : Files) (send : List ℕ) (divider cloc
 -- `shares`: it wrote what each machine of the setup shares with each other one
 pub record SharesPassed (c : Call) (files : Files) (source : List ℕ) (config : Option (List ℕ)) : Type 0 where
   pub setup : Setup
-  pub lines : List Line
-  pub given : prepared_at files source config None ≡ right (setup, lines)
+  pub given : prepared_at files source config None ≡ right (setup, [])
   pub wrote : Writing c (shares_text setup)
 
 -- `gen`: it wrote the summary of the load that the seed draws, whatever files there are

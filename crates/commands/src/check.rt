@@ -8,7 +8,8 @@ ghost use Rattle.stages.specs.Spans.{AreJudged, verdict_text};
 ghost use Rattle.commands.specs.Outside.{output_by};
 ghost use Rattle.commands.specs.Obeys.{ObeysAtRest};
 ghost use Rattle.commands.specs.Written.{SinkWrites};
-ghost use Rattle.commands.specs.Verdicts.{TellsVerdicts};
+ghost use Rattle.commands.specs.Does.{Does};
+ghost use Rattle.commands.specs.Tasks as task;
 
 use crate::handing::hand_on;
 use fault_lines::Fault;
@@ -22,7 +23,6 @@ use std::alloc::Global;
 /// provable, if there is one. All memory is taken before the first piece is put.
 ///
 /// With status 0, where contracts know the files and the output: `CheckPassed` (`specs/Passed.antt`).
-#[tactic(auto, unfolding(crate::specs::Tasks::judge))]
 pub fn check<F: Shelf, O: Sink>(
     alloc: Global,
     source: &str,
@@ -42,8 +42,7 @@ pub fn check<F: Shelf, O: Sink>(
 fn tell_verdicts<O: Sink>(out: &mut O, setup: &Setup, verdicts: Verdicts) -> Result<(), Fault>
     requires configured { AreConfigured setup.now }
     requires judged { AreJudged setup.now setup.now.spans verdicts.found.items verdicts.refused }
-    ensures { TellsVerdicts setup.now
-        (output_by O.Sink out.old) (output_by O.Sink out.new) result }
+    ensures { Does (task.verdicts setup.now) (output_by O.Sink out.old) (output_by O.Sink out.new) result }
 {
     write_verdicts(out, setup.spans.as_slice(), &verdicts.found)?;
     refuse(setup, verdicts.refused)

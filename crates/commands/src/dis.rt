@@ -1,14 +1,11 @@
 //! The command `dis`: the text of each word of a file.
-ghost use Rattle.std.specs.Prelude.{◌+◌, ◌≤◌, if◌then◌else◌, length};
+ghost use Rattle.std.specs.Prelude.{◌+◌, ◌≤◌, if◌then◌else◌};
 ghost use Rattle.command_line.specs.declared.order.Order.TheVariants.{Dis};
-ghost use Rattle.word_file.specs.Listing.{word_lines};
 ghost use Rattle.commands.specs.Obeys.{ObeysAtRest};
-ghost use Rattle.commands.specs.Written.{SinkWrites};
 
 use crate::handing::hand_on;
 use fault_lines::Fault;
 use pio_edge::{Shelf, Sink};
-use pio_encode::SideRule;
 use stages::fetch_words;
 use std::alloc::Global;
 use word_file::{make_rule, put_words};
@@ -17,7 +14,6 @@ use word_file::{make_rule, put_words};
 /// first piece is put.
 ///
 /// With status 0, where contracts know the files and the output: `DisPassed` (`specs/Passed.antt`).
-#[tactic(auto, unfolding(crate::specs::Tasks::judge))]
 pub fn dis<F: Shelf, O: Sink>(
     alloc: Global,
     file: &str,
@@ -31,14 +27,6 @@ pub fn dis<F: Shelf, O: Sink>(
         shelf.old shelf.new out.old out.new result }
 {
     let words = fetch_words(alloc, shelf, file)?;
-    write_words(out, &words, &make_rule(side, opt))
-}
-
-/// Writes the lines of words, and hands on what the output still keeps.
-fn write_words<O: Sink>(out: &mut O, words: &[u16], rule: &SideRule) -> Result<(), Fault>
-    requires { length words.now ≤ 32 }
-    ensures { SinkWrites O.Sink out.old out.new (word_lines rule.now words.now) result }
-{
-    let put = put_words(out, words, rule);
+    let put = put_words(out, &words, &make_rule(side, opt));
     hand_on(out, put)
 }

@@ -2,11 +2,9 @@
 ghost use Rattle.std.specs.Prelude.{◌≤◌, ◌^◌};
 ghost use Rattle.command_line.specs.declared.order.Order.TheVariants.{Gen};
 ghost use Rattle.commands.specs.Obeys.{Obeys};
-ghost use Rattle.commands.specs.Written.{SinkWrites};
-ghost use Rattle.drawn_load.specs.Summaries.{summary_text};
 
 use crate::handing::hand_on;
-use drawn_load::{Summary, put_summary, summarise};
+use drawn_load::{put_summary, summarise};
 use fault_lines::Fault;
 use pio_edge::{Shelf, Sink};
 use std::alloc::Global;
@@ -17,7 +15,6 @@ use step_count::Steps;
 /// nothing. All memory is taken before the first piece is put.
 ///
 /// With status 0, where contracts know the files and the output: `GenPassed` (`specs/Passed.antt`).
-#[tactic(auto, unfolding(crate::specs::Tasks::judge))]
 pub fn generate<F: Shelf, O: Sink, L: Ledger>(
     alloc: Global,
     seed: u64,
@@ -31,13 +28,6 @@ pub fn generate<F: Shelf, O: Sink, L: Ledger>(
         steps.old steps.new result }
 {
     let summary = summarise(alloc, seed, clocks, steps)?;
-    write_summary(out, &summary)
-}
-
-/// Writes the lines of a summary, and hands on what the output still keeps.
-fn write_summary<O: Sink>(out: &mut O, summary: &Summary) -> Result<(), Fault>
-    ensures { SinkWrites O.Sink out.old out.new (summary_text summary.now) result }
-{
-    let put = put_summary(out, summary);
+    let put = put_summary(out, &summary);
     hand_on(out, put)
 }

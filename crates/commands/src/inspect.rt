@@ -27,7 +27,6 @@ use vcd_trace::{InsideVcd, failing_early_leaves_a_first_part_of_what_is_inside};
 /// clocks, beside a stimulus where one is named. No span is asked. All memory is taken before the first piece is put.
 ///
 /// With status 0, where contracts know the files and the output: `InspectPassed` (`specs/Passed.antt`).
-#[tactic(auto, unfolding(crate::specs::Tasks::judge), using(crate::proofs::Working::worked_by))]
 pub fn inspect<F: Shelf, O: Sink, L: Ledger>(
     alloc: Global,
     files: RunFiles,

@@ -39,7 +39,6 @@ use step_count::Steps;
 /// taken before the first piece is put.
 ///
 /// With status 0, where contracts know the files and the output: `MeasurePassed` (`specs/Passed.antt`).
-#[tactic(auto, unfolding(crate::specs::Tasks::judge), using(crate::proofs::Working::worked_by))]
 pub fn measure<F: Shelf, O: Sink, L: Ledger>(
     alloc: Global,
     files: RunFiles,

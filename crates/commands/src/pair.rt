@@ -24,7 +24,6 @@ use vcd_trace::{TwinVcd, failing_early_leaves_a_first_part_of_two};
 /// The first block's spans come before the second's. All memory is taken before the first piece is put.
 ///
 /// With status 0, where contracts know the files and the output: `PairPassed` (`specs/Passed.antt`).
-#[tactic(auto, unfolding(crate::specs::Tasks::judge), using(crate::proofs::Working::worked_by_both))]
 pub fn pair<F: Shelf, O: Sink, L: Ledger>(
     alloc: Global,
     files: PairFiles,

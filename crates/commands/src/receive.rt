@@ -27,7 +27,6 @@ use step_count::Steps;
 /// first piece is put.
 ///
 /// With status 0, where contracts know the files and the output: `ReceivePassed` (`specs/Passed.antt`).
-#[tactic(auto, unfolding(crate::specs::Tasks::judge), using(crate::proofs::Working::worked_by))]
 pub fn receive<F: Shelf, O: Sink, L: Ledger>(
     alloc: Global,
     files: RunFiles,

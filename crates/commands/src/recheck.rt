@@ -1,28 +1,20 @@
 //! The command `recheck`: whether the table of a file proves a span, without deriving one.
-ghost use Rattle.std.specs.Prelude.{◌≡◌, ℕ, IfSome, IsSome, List, MatchOption, None, Option, Some, slice_index_or};
-ghost use Rattle.command_line.specs.Words.{recheck as recheck_asked};
+ghost use Rattle.std.specs.Prelude.{◌≡◌, IsSome, MatchOption, None, slice_index_or};
 ghost use Rattle.command_line.specs.declared.order.Order.TheVariants.{Recheck};
 ghost use Rattle.pin_matrix.specs.Followed.{followed};
-ghost use Rattle.span_texts.specs.FlawLines.{rechecked_line};
 ghost use Rattle.span_check.specs.Proved.{HoldsInEveryRun};
 ghost use Rattle.span_verdict.specs.Sharing.{IsUnshared};
-ghost use Rattle.fault_lines.specs.declared.fault.File.TheVariants as file;
-ghost use Rattle.stages.specs.Fetching.{one_slot};
-ghost use Rattle.stages.specs.Judged.{right, span_at};
-ghost use Rattle.stages.specs.Named.{named_from};
-ghost use Rattle.commands.specs.Needs.{HasFlaw, IsProvedBy};
-ghost use Rattle.commands.specs.Outside.{call_by, output_by};
+ghost use Rattle.commands.specs.Does.{Does};
+ghost use Rattle.commands.specs.Needs.{HasFlaw, IsNamedAt, IsProvedBy};
 ghost use Rattle.commands.specs.Obeys.{ObeysAtRest};
-ghost use Rattle.commands.specs.Promise.{AsksFiles, CommandEnds};
-ghost use Rattle.commands.specs.Written.{SinkWrites};
-ghost use Rattle.commands.specs.Tables.{TellsRecheck};
+ghost use Rattle.commands.specs.Outside.{output_by};
+ghost use Rattle.commands.specs.Tasks.{rechecked};
 
 use crate::handing::hand_on;
 use crate::span_fault::{flawed, unproved};
 use fault_lines::Fault;
 use pin_matrix::{Setup, Span};
 use pio_edge::{Shelf, Sink};
-use pio_encode::Name;
 use span_bounds::Table;
 use span_check::a_provable_span_holds_in_every_run;
 use span_texts::{Refusal, put_rechecked};
@@ -34,7 +26,7 @@ use std::alloc::Global;
 /// before the first piece is put.
 ///
 /// With status 0, where contracts know the files and the output: `RecheckPassed` (`specs/Passed.antt`).
-pub fn recheck_file<F: Shelf, O: Sink>(
+pub fn recheck<F: Shelf, O: Sink>(
     alloc: Global,
     source: &str,
     config: Option<&str>,
@@ -48,37 +40,16 @@ pub fn recheck_file<F: Shelf, O: Sink>(
 {
     let setup = prepare_setup(alloc, shelf, source, config)?;
     match span_named(&setup, name) {
-        Some((place, span)) => recheck_span(alloc, &setup, place, span, table, shelf, out),
+        Some((place, span)) => {
+            let rows = fetch_table(alloc, shelf, table, span.assume.follow())?;
+            tell_recheck(alloc, &setup, place, span, &rows, out)
+        }
         None => Err(Fault::NoSpan),
     }
 }
 
-/// Reads a table file, and writes that its table proves the span at this place, whose machine is configured, where it
-/// does.
-fn recheck_span<F: Shelf, O: Sink>(
-    alloc: Global,
-    setup: &Setup,
-    place: usize,
-    span: &Span,
-    table: &str,
-    shelf: &mut F,
-    out: &mut O,
-) -> Result<(), Fault>
-    requires { IsSome (slice_index_or setup.now.machines span.now.machine None) }
-    ensures ends { (source : List ℕ) (config : Option (List ℕ)) (name : List ℕ)
-        → IfSome (F.holds shelf.old) (λ files. span_at files source config name ≡ right (setup.now, span.now))
-        → Some (place, span.now) ≡ named_from 0 name setup.now.spans
-        → CommandEnds (recheck_asked source config name table.now)
-        (call_by F.Shelf O.Sink shelf.old shelf.new out.old out.new) result }
-    ensures asked { AsksFiles (one_slot file.Table (Some table.now))
-        (F.fetched shelf.old) (F.fetched shelf.new) result }
-    ensures same { F.holds shelf.new ≡ F.holds shelf.old }
-{
-    let rows = fetch_table(alloc, shelf, table, span.assume.follow())?;
-    tell_recheck(alloc, setup, place, span, &rows, out)
-}
-
-/// Writes that a table proves the span at this place, whose machine is configured, where it does.
+/// Writes that a table proves the span at this place, whose machine is configured, where it does and no other machine
+/// may write a pin of the span.
 fn tell_recheck<O: Sink>(
     alloc: Global,
     setup: &Setup,
@@ -88,38 +59,25 @@ fn tell_recheck<O: Sink>(
     out: &mut O,
 ) -> Result<(), Fault>
     requires configured { IsSome (slice_index_or setup.now.machines span.now.machine None) }
+    requires named { IsNamedAt setup.now span.now place span.now.name }
     requires follow { table.now.follow ≡ followed span.now }
-    ensures { TellsRecheck setup.now place span.now table.now.rows
-        (output_by O.Sink out.old) (output_by O.Sink out.new) result }
+    ensures { Does (rechecked setup.now span.now table.now.rows) (output_by O.Sink out.old) (output_by O.Sink out.new)
+        result }
 {
-    match shared_by(setup, span) {
-        Some(machine) => Err(unproved(alloc, place, span, Refusal::Shared(machine))),
-        None => tell_flaw(alloc, setup, place, span, table, out),
+    if let Some(machine) = shared_by(setup, span) {
+        return Err(unproved(alloc, place, span, Refusal::Shared(machine)));
     }
-}
-
-/// The same of a span of which no other machine may write a pin.
-fn tell_flaw<O: Sink>(
-    alloc: Global,
-    setup: &Setup,
-    place: usize,
-    span: &Span,
-    table: &Table,
-    out: &mut O,
-) -> Result<(), Fault>
-    requires configured { IsSome (slice_index_or setup.now.machines span.now.machine None) }
-    requires alone { IsUnshared setup.now span.now }
-    requires follow { table.now.follow ≡ followed span.now }
-    ensures { TellsRecheck setup.now place span.now table.now.rows
-        (output_by O.Sink out.old) (output_by O.Sink out.new) result }
-{
     match first_flaw(setup, span, table) {
         Some(found) => Err(flawed(alloc, place, span, found)),
-        None => write_rechecked(out, &span.name),
+        None => {
+            let put = put_rechecked(out, &span.name);
+            hand_on(out, put)
+        }
     }
 }
 
 /// What is wrong with a table first. Where nothing is, it proves the span, so the span holds in every run.
+// The law of provable spans is cited at its call, and used where there is no flaw: the two answers are two goals.
 fn first_flaw(setup: &Setup, span: &Span, table: &Table) -> Option<Flaw>
     requires configured { IsSome (slice_index_or setup.now.machines span.now.machine None) }
     requires alone { IsUnshared setup.now span.now }
@@ -132,12 +90,4 @@ fn first_flaw(setup: &Setup, span: &Span, table: &Table) -> Option<Flaw>
         Some(found) => Some(found),
         None => None,
     }
-}
-
-/// Writes that a table proves the span with this name, and hands on what the output still keeps.
-fn write_rechecked<O: Sink>(out: &mut O, name: &Name) -> Result<(), Fault>
-    ensures { SinkWrites O.Sink out.old out.new (rechecked_line name.now) result }
-{
-    let put = put_rechecked(out, name);
-    hand_on(out, put)
 }

@@ -28,7 +28,6 @@ use vcd_trace::{VcdTrace, failing_early_leaves_a_first_part};
 /// nothing is written. All memory is taken before the first piece is put.
 ///
 /// With status 0, where contracts know the files and the output: `RunPassed` (`specs/Passed.antt`).
-#[tactic(auto, unfolding(crate::specs::Tasks::judge), using(crate::proofs::Working::worked_by))]
 pub fn run<F: Shelf, O: Sink, L: Ledger>(
     alloc: Global,
     files: RunFiles,

@@ -1,13 +1,10 @@
 //! The command `shares`: the report on the block that a source and a configuration set up.
-ghost use Rattle.block_shares.specs.Report.{shares_text};
 ghost use Rattle.command_line.specs.declared.order.Order.TheVariants.{Shares};
 ghost use Rattle.commands.specs.Obeys.{ObeysAtRest};
-ghost use Rattle.commands.specs.Written.{SinkWrites};
 
 use crate::handing::hand_on;
 use block_shares::put_shares;
 use fault_lines::Fault;
-use pin_matrix::Setup;
 use pio_edge::{Shelf, Sink};
 use stages::prepare_setup;
 use std::alloc::Global;
@@ -16,7 +13,6 @@ use std::alloc::Global;
 /// memory is taken before the first piece is put.
 ///
 /// With status 0, where contracts know the files and the output: `SharesPassed` (`specs/Passed.antt`).
-#[tactic(auto, unfolding(crate::specs::Tasks::judge))]
 pub fn shares<F: Shelf, O: Sink>(
     alloc: Global,
     source: &str,
@@ -28,13 +24,6 @@ pub fn shares<F: Shelf, O: Sink>(
         shelf.old shelf.new out.old out.new result }
 {
     let setup = prepare_setup(alloc, shelf, source, config)?;
-    write_shares(out, &setup)
-}
-
-/// Writes the report on a setup, and hands on what the output still keeps.
-fn write_shares<O: Sink>(out: &mut O, setup: &Setup) -> Result<(), Fault>
-    ensures { SinkWrites O.Sink out.old out.new (shares_text setup.now) result }
-{
-    let put = put_shares(out, setup);
+    let put = put_shares(out, &setup);
     hand_on(out, put)
 }

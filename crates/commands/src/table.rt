@@ -2,10 +2,12 @@
 ghost use Rattle.std.specs.Prelude.{IsSome, None, slice_index_or};
 ghost use Rattle.command_line.specs.declared.order.Order.TheVariants as order;
 ghost use Rattle.span_texts.specs.Rows.{table_text};
-ghost use Rattle.commands.specs.Outside.{output_by};
+ghost use Rattle.commands.specs.Does.{Does};
+ghost use Rattle.commands.specs.Needs.{IsNamedAt};
 ghost use Rattle.commands.specs.Obeys.{ObeysAtRest};
-ghost use Rattle.commands.specs.Written.{SinkWrites};
-ghost use Rattle.commands.specs.Tables.{TellsTable, TellsText};
+ghost use Rattle.commands.specs.Outside.{output_by};
+ghost use Rattle.commands.specs.Tables.{TellsText};
+ghost use Rattle.commands.specs.Tasks.{tabled};
 
 use crate::handing::hand_on;
 use crate::span_fault::unproved;
@@ -13,7 +15,6 @@ use fault_lines::{Fault, File};
 use pin_matrix::{Setup, Span};
 use pio_edge::{Shelf, Sink};
 use span_bounds::Table;
-use span_check::check;
 use span_texts::{Refusal, put_table, text_len};
 use span_verdict::Verdict;
 use stages::{limit_of, prepare_setup, span_named};
@@ -50,13 +51,13 @@ fn tell_table<O: Sink>(
     span: &Span,
     out: &mut O,
 ) -> Result<(), Fault>
-    requires { IsSome (slice_index_or setup.now.machines span.now.machine None) }
-    ensures { TellsTable setup.now place span.now
-        (output_by O.Sink out.old) (output_by O.Sink out.new) result }
+    requires configured { IsSome (slice_index_or setup.now.machines span.now.machine None) }
+    requires named { IsNamedAt setup.now span.now place span.now.name }
+    ensures { Does (tabled setup.now span.now) (output_by O.Sink out.old) (output_by O.Sink out.new) result }
 {
-    let verdict = check(alloc, setup, span)?;
+    let verdict = span_check::check(alloc, setup, span)?;
     match verdict {
-        Verdict::Proved { table, .. } => tell_text(out, &table),
+        Verdict::Proved { table, .. } => write_table(out, &table),
         Verdict::Unproved(context, cause) => {
             Err(unproved(alloc, place, span, Refusal::Unproved(context, cause)))
         }
@@ -65,21 +66,13 @@ fn tell_table<O: Sink>(
 }
 
 /// Writes the text of a table that is no longer than a table file may be.
-fn tell_text<O: Sink>(out: &mut O, table: &Table) -> Result<(), Fault>
+fn write_table<O: Sink>(out: &mut O, table: &Table) -> Result<(), Fault>
     ensures { TellsText (output_by O.Sink out.old) (output_by O.Sink out.new)
         (table_text table.now.rows) result }
 {
     if text_len(table) > limit_of(File::Table) {
-        Err(Fault::TooLong(File::Table))
-    } else {
-        write_table(out, table)
+        return Err(Fault::TooLong(File::Table));
     }
-}
-
-/// Writes the text of a table, and hands on what the output still keeps.
-fn write_table<O: Sink>(out: &mut O, table: &Table) -> Result<(), Fault>
-    ensures { SinkWrites O.Sink out.old out.new (table_text table.now.rows) result }
-{
     let put = put_table(out, table);
     hand_on(out, put)
 }

@@ -18,7 +18,7 @@ use crate::laws::no_more_clocks_are_worked_out_than_asked;
 use crate::measure::measure;
 use crate::pair::pair;
 use crate::receive::receive;
-use crate::recheck::recheck_file;
+use crate::recheck::recheck;
 use crate::run::run;
 use crate::shares::shares;
 use crate::table::table;
@@ -108,7 +108,7 @@ fn obey<F: Shelf, O: Sink, L: Ledger>(
             config,
             span,
             table,
-        } => recheck_file(alloc, source, config, span, table, shelf, out),
+        } => recheck(alloc, source, config, span, table, shelf, out),
         Order::Shares { source, config } => shares(alloc, source, config, shelf, out),
         Order::Gen { seed, clocks } => generate(alloc, seed, clocks, shelf, out, steps),
         Order::Dis { file, side, opt } => dis(alloc, file, side, opt, shelf, out),

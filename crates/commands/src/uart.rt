@@ -1,5 +1,5 @@
 //! The command `uart`: what the proved transmitter sends of a file's bytes in the first clocks of a run.
-ghost use Rattle.std.specs.Prelude.{◌≡◌, ◌+◌, ◌≤◌, ◌^◌, ℕ, List};
+ghost use Rattle.std.specs.Prelude.{◌+◌, ◌≤◌, ◌^◌};
 ghost use Rattle.block_core.specs.Block.{first_run};
 ghost use Rattle.commands.specs.Obeys.{Obeys};
 ghost use Rattle.commands.specs.Tasks.{sent_text};
@@ -12,7 +12,6 @@ ghost use Rattle.idle_engine.specs.Worked.{worked_in};
 use crate::laws::a_transmitter_sends_this_text;
 use crate::receive::write_received;
 use command_line::SerialLine;
-use dreq_pacing::Schedule;
 use fault_lines::{Fault, File};
 use idle_engine::few_clocks_are_worked_out;
 use pio_edge::{Shelf, Sink};
@@ -26,7 +25,6 @@ use step_count::Steps;
 /// clocks, 1 to 8,191. All memory is taken before the first piece is put.
 ///
 /// With status 0, where contracts know the files and the output: `UartPassed` (`specs/Passed.antt`).
-#[tactic(auto, unfolding(crate::specs::Tasks::judge), using(crate::proofs::Working::sent_by))]
 pub fn uart<F: Shelf, O: Sink, L: Ledger>(
     alloc: Global,
     send: &str,
@@ -62,33 +60,12 @@ fn send_bytes<O: Sink, L: Ledger>(
     ensures ends { SinkWrites O.Sink out.old out.new (sent_text divider bytes.now clocks) result }
     ensures steps { steps.new ≤ steps.old + worked_in (first_run (transmitter_of divider)) (fed bytes.now) clocks }
 {
-    let schedule = feed(alloc, bytes)?;
-    write_sent(alloc, &schedule, divider, clocks, out, steps)
-}
-
-/// Writes a line for each byte that the transmitter sends with this feed, or runs out of memory before it has put
-/// anything.
-fn write_sent<O: Sink, L: Ledger>(
-    alloc: Global,
-    schedule: &Schedule,
-    divider: u16,
-    clocks: u64,
-    out: &mut O,
-    steps: &mut Steps<L>,
-) -> Result<(), Fault>
-    requires within { clocks ≤ 10 ^ 12 }
-    requires some { 1 ≤ divider }
-    requires most { divider ≤ 8191 }
-    ensures ends { (bytes : List ℕ) → schedule.now ≡ fed bytes
-        → SinkWrites O.Sink out.old out.new
-        (sent_text divider bytes clocks) result }
-    ensures steps { steps.new ≤ steps.old + worked_in (first_run (transmitter_of divider)) schedule.now clocks }
-{
     a_transmitter_sends_this_text();
+    let schedule = feed(alloc, bytes)?;
     let setup = uart_setup(alloc, divider);
     let line = SerialLine {
         pin: 0,
         bit: 8 * divider,
     };
-    write_received(alloc, &setup, schedule, clocks, line, out, steps)
+    write_received(alloc, &setup, &schedule, clocks, line, out, steps)
 }

@@ -1,5 +1,5 @@
 -- Spans that are judged one after the other.
-use Rattle.std.proofs.Common.{◌≡◌, ◌∙◌, ℕ, zero, suc, ◌+◌, ◌++◌, ◌<◌, ◌≤◌, arith, Bool, Option, Some, None, Result, Ok, Err, List, [], ◌∷◌, IsSome, length, take, get_or, slice_index_or, refl, sym, ap, subst, length-take-le}
+use Rattle.std.proofs.Common.{◌≡◌, ◌∙◌, ℕ, zero, suc, ◌+◌, ◌++◌, ◌<◌, ◌≤◌, arith, Option, Some, None, Result, Ok, Err, List, [], ◌∷◌, IsSome, length, take, get_or, slice_index_or, refl, sym, ap, subst, length-take-le}
 use Rattle.std.proofs.Math.Seq.{take-suc}
 use Rattle.std.specs.List.{AllByRecursion}
 use Rattle.pin_matrix.specs.declared.setup.Setup.{Setup}
@@ -13,8 +13,10 @@ use Rattle.span_check.specs.Proved.{HoldsInEveryRun}
 use Rattle.span_texts.specs.declared.refusal.Finding.{Finding}
 use Rattle.span_texts.specs.declared.refusal.Refusal.{Refusal}
 use Rattle.span_texts.specs.Refusals.{found_by}
+use Rattle.fault_lines.specs.declared.fault.Fault.{Fault}
+use Rattle.fault_lines.specs.declared.fault.Fault.TheVariants as fault
 use Rattle.stages.specs.Configured.{AreConfigured}
-use Rattle.stages.specs.Spans.{IsProvableAlone, AreProvable, AllHold, IsRefused, IsFirstRefused, IsVerdictOn, AreVerdicts, first_refused, IsFirstOf, AreJudged, IsNextVerdict}
+use Rattle.stages.specs.Spans.{IsProvableAlone, AreProvable, AreAsked, AllHold, IsRefused, IsFirstRefused, IsVerdictOn, AreVerdicts, first_refused, IsFirstOf, AreJudged, IsNextVerdict}
 
 -- what holds of each holds of the one at a place
 pub all_at : {X : Type 0} (P : X → Type 0) (xs : List X) (i : ℕ) (d : X) → AllByRecursion P xs → i < length xs → P (get_or xs i d)
@@ -53,17 +55,18 @@ refused_before u [] sp place name r h = absurd h
 refused_before u (s ∷ spans) sp zero name r h = h
 refused_before u (s ∷ spans) sp (suc place) name r h = (h.0, refused_before u spans sp place name r h.1)
 
-first_more : (u : Setup) (spans : List Span) (refused : Option (ℕ × List ℕ × Refusal)) (place : ℕ) (sp : Span) (f : Result Finding Refusal) → length spans ≡ place → IsFirstOf u spans refused
+first_more : (u : Setup) (spans : List Span) (refused : Option Fault) (place : ℕ) (sp : Span) (f : Result Finding Refusal) → length spans ≡ place → IsFirstOf u spans refused
     → IsVerdictOn u sp f → IsFirstOf u (spans ++ sp ∷ []) (first_refused refused place sp.name f)
 first_more u spans None place sp (Ok told) at h here = provable_more u spans sp h (record { provable = here.proved.provable; alone = here.proved.alone })
 first_more u spans None place sp (Err r) at h here = refused_last u spans place sp r at h here
-first_more u spans (Some earlier) place sp f at h here = refused_before u spans sp earlier.0 earlier.1 earlier.2 h
+first_more u spans (Some (fault.Unproved earlier name r)) place sp f at h here = refused_before u spans sp earlier name r h
+first_more u spans (Some e) place sp f at h here = absurd h
 
 plus_one : (n : ℕ) → n + 1 ≡ suc n
 plus_one n = omega arith
 
 -- one verdict more
-pub judged_more : (u : Setup) (spans : List Span) (place : ℕ) (found : List (Result Finding Refusal)) (refused : Option (ℕ × List ℕ × Refusal)) (sp : Span) (f : Result Finding Refusal)
+pub judged_more : (u : Setup) (spans : List Span) (place : ℕ) (found : List (Result Finding Refusal)) (refused : Option Fault) (sp : Span) (f : Result Finding Refusal)
     → place < length spans → sp ≡ get_or spans place sp → AreJudged u (take place spans) found refused → IsVerdictOn u sp f
     → AreJudged u (take (place + 1) spans) (found ++ f ∷ []) (first_refused refused place sp.name f)
 judged_more u spans place found refused sp f lt is h here =
@@ -75,16 +78,16 @@ judged_more u spans place found refused sp f lt is h here =
     subst (λ (l : List Span). AreJudged u l (found ++ f ∷ []) (first_refused refused place sp.name f)) (sym e) whole
 
 -- the same by what the next verdict gives
-pub judged_next : (u : Setup) (spans : List Span) (place : ℕ) (found after : List (Result Finding Refusal)) (earlier refused : Option (ℕ × List ℕ × Refusal)) (sp : Span)
+pub judged_next : (u : Setup) (spans : List Span) (place : ℕ) (found after : List (Result Finding Refusal)) (earlier refused : Option Fault) (sp : Span)
     → place < length spans → sp ≡ get_or spans place sp → AreJudged u (take place spans) found earlier → IsNextVerdict u place sp found after earlier refused
     → AreJudged u (take (place + 1) spans) after refused
 judged_next u spans place found after earlier refused sp lt is h next =
     let whole = judged_more u spans place found earlier sp next.found lt is h next.verdict in
     subst (λ (fs : List (Result Finding Refusal)). AreJudged u (take (place + 1) spans) fs refused) (sym next.more)
-    (subst (λ (r : Option (ℕ × List ℕ × Refusal)). AreJudged u (take (place + 1) spans) (found ++ next.found ∷ []) r) (sym next.first) whole)
+    (subst (λ (r : Option Fault). AreJudged u (take (place + 1) spans) (found ++ next.found ∷ []) r) (sym next.first) whole)
 
 -- when all are judged
-pub judged_all : (u : Setup) (spans : List Span) (place : ℕ) (found : List (Result Finding Refusal)) (refused : Option (ℕ × List ℕ × Refusal)) → length spans ≤ place → AreJudged u (take place spans) found refused → AreJudged u spans found refused
+pub judged_all : (u : Setup) (spans : List Span) (place : ℕ) (found : List (Result Finding Refusal)) (refused : Option Fault) → length spans ≤ place → AreJudged u (take place spans) found refused → AreJudged u spans found refused
 judged_all u spans place found refused le h = subst (λ (l : List Span). AreJudged u l found refused) (take_whole spans place le) h
   where
     take_whole : (l : List Span) (n : ℕ) → length l ≤ n → take n l ≡ l
@@ -92,6 +95,16 @@ judged_all u spans place found refused le h = subst (λ (l : List Span). AreJudg
     take_whole [] (suc n) le = refl
     take_whole (s ∷ l) zero le = absurd (omega arith)
     take_whole (s ∷ l) (suc n) le = ap (λ r. s ∷ r) (take_whole l n (omega arith))
+
+-- so its fault is that of a command that asks them
+pub refused_asked : (u : Setup) (e : Fault) → IsFirstOf u u.spans (Some e) → AreAsked u (Err e)
+refused_asked u (fault.Unproved place name r) h = h
+refused_asked u e h = absurd h
+
+-- and no memory is wanted for it
+pub never_memory : (u : Setup) (e : Fault) → IsFirstOf u u.spans (Some e) → ◌≡◌ {A = Result (Unit {0}) Fault} (Err e) (Err fault.Memory) → ⊥
+never_memory u (fault.Unproved place name r) h is = cc
+never_memory u e h is = absurd h
 
 -- provable spans hold in every run
 pub hold : (u : Setup) → ((v : Setup) (sp : Span) → IsSome (slice_index_or v.machines sp.machine None) → IsProvable v sp → IsUnshared v sp → HoldsInEveryRun v sp) → AreConfigured u → AreProvable u → AllHold u

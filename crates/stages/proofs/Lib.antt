@@ -5,4 +5,5 @@ pub mod Configured
 pub mod Parts
 pub mod Preparing
 mod PreparingPair
+pub mod Spanned
 pub mod Asking

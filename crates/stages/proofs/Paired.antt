@@ -10,7 +10,7 @@ use Rattle.span_check.specs.Pairs.{HoldsInFirst, HoldsInSecond}
 use Rattle.fault_lines.specs.declared.fault.Fault.{Fault}
 use Rattle.fault_lines.specs.declared.fault.Fault.TheVariants as fault
 use Rattle.stages.specs.Configured.{AreConfigured}
-use Rattle.stages.specs.Spans.{IsProvableAlone, AreProvable, AreAsked}
+use Rattle.stages.specs.Spans.{IsProvableAlone, AreProvable}
 use Rattle.stages.specs.Pairs.{AllHoldInPairs, AreSecondAsked, AreBothAsked}
 
 -- the laws of each

@@ -9,7 +9,7 @@ use Rattle.fault_lines.specs.declared.fault.Fault.{Fault}
 use Rattle.fault_lines.specs.declared.fault.Fault.TheVariants as fault
 use Rattle.stages.specs.Judged.{Judged, right, wrong, and_then}
 use Rattle.stages.specs.Fetching.{Slot, slot, fetches_of, name_in, one_slot, AsksUntil}
-use Rattle.stages.specs.Stages.{HasSuch, Plan, ReadFails, KeepsPlan, plan_of, shelved}
+use Rattle.stages.specs.Stages.{HasSuch, Plan, ReadFails, KeepsPlan, Shelved, made_into, plan_of, shelved}
 use Rattle.stages.proofs.Asking.{all_after, part_all, asks_first, asks_after}
 
 -- of known files, what follows from one thing
@@ -120,3 +120,42 @@ fails_after seen xs zs own name part rest whole view shown before mid after e pl
   asked = subst (λ (slots : List Slot). AsksUntil slots (seen.fetched before) (seen.fetched after) e) (sym place)
       (asks_after xs (slot own name ∷ zs) _ _ _ e w.asked (asks_first (one_slot own name) zs _ _ e k.asked));
 }
+
+-- ---- a plan that goes on from what the files of another come to
+
+-- the same files, which come to this
+abbrev pub further : {X Y : Type 0} → Plan X → (Files → Judged Y) → Plan Y
+further plan comes_to = record { comes_to = comes_to; slots = plan.slots; reaches = plan.reaches }
+
+further_fails : {X Y : Type 0} (shelf : Shelved) (plan : Plan X) (comes_to : Files → Judged Y) (e : Fault)
+    → ((f : Files) → plan.comes_to f ≡ wrong e → comes_to f ≡ wrong e) → ReadFails shelf plan e → ReadFails shelf (further plan comes_to) e
+further_fails shelf plan comes_to (fault.Shelf role) so h = h
+further_fails shelf plan comes_to fault.Memory so h = h
+further_fails shelf plan comes_to fault.Usage so h = h
+further_fails shelf plan comes_to fault.Out so h = h
+further_fails shelf plan comes_to (fault.Unproved place at refusal) so h = h
+further_fails shelf plan comes_to (fault.SecondUnproved place at refusal) so h = h
+further_fails shelf plan comes_to (fault.Flaw place at flaw) so h = h
+further_fails shelf plan comes_to e so h = (h.0, told shelf.files _ _ so h.1)
+
+-- what the one fails with, the other fails with
+pub fails_further : {F X Y V W : Type 0} (seen : ShelfSeen F) (plan : Plan X) (comes_to : Files → Judged Y) (view : V → X) (shown : W → Y)
+    (before after : F) (e : Fault) → ((f : Files) → plan.comes_to f ≡ wrong e → comes_to f ≡ wrong e)
+    → KeepsPlan seen plan view before after (Err e) → KeepsPlan seen (further plan comes_to) shown before after (Err e)
+fails_further seen plan comes_to view shown before after e so k =
+    record { same = k.same; stage = further_fails _ plan comes_to e so k.stage; asked = k.asked }
+
+-- and what it gives, the other gives
+pub gives_further : {F X Y V W : Type 0} (seen : ShelfSeen F) (plan : Plan X) (comes_to : Files → Judged Y) (view : V → X) (shown : W → Y)
+    (before after : F) (v : V) (w : W) → ((f : Files) → plan.comes_to f ≡ right (view v) → comes_to f ≡ right (shown w))
+    → KeepsPlan seen plan view before after (Ok v) → KeepsPlan seen (further plan comes_to) shown before after (Ok w)
+gives_further seen plan comes_to view shown before after v w so k =
+    record { same = k.same; stage = (k.stage.0, told (seen.holds before) _ _ so k.stage.1); asked = k.asked }
+
+-- where something is made of what the files come to
+pub made : {F X Y V : Type 0} (seen : ShelfSeen F) (plan : Plan X) (make : X → Y) (view : V → X) (before after : F) (r : Result V Fault)
+    → KeepsPlan seen plan view before after r → KeepsPlan seen (made_into plan make) (λ v. make (view v)) before after r
+made {X} seen plan make view before after (Ok v) k =
+    gives_further seen plan _ view _ before after v v (λ f e. ap (λ (j : Judged X). and_then j (λ x. right (make x))) e) k
+made {X} seen plan make view before after (Err e) k =
+    fails_further seen plan _ view _ before after e (λ f w. ap (λ (j : Judged X). and_then j (λ x. right (make x))) w) k

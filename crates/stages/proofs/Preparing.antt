@@ -1,5 +1,5 @@
 -- What a run reads, part by part: its source, its setup, its stimulus.
-use Rattle.std.proofs.Common.{◌≡◌, ◌∙◌, ℕ, true, Option, Some, IfSome, List, [], ◌∷◌, Result, Ok, Err, refl, ap}
+use Rattle.std.proofs.Common.{◌≡◌, ◌∙◌, ℕ, Option, Some, IfSome, List, [], ◌∷◌, Err, refl, ap}
 use Rattle.pio_edge.specs.Edge.{Files}
 use Rattle.pio_edge.specs.declared.shelf.Shelf.{Ghosts as ShelfSeen}
 use Rattle.pio_assemble.specs.Program.{Assembled}
@@ -8,7 +8,7 @@ use Rattle.dreq_pacing.specs.declared.line.Line.{Line}
 use Rattle.fault_lines.specs.declared.fault.File.TheVariants.{Source, Config, Stimulus}
 use Rattle.fault_lines.specs.declared.fault.Fault.{Fault}
 use Rattle.stages.specs.Judged.{Judged, right, and_then, is_right, source_at, setup_at, schedule_at, prepared_at}
-use Rattle.stages.specs.Fetching.{slot, run_slots}
+use Rattle.stages.specs.Fetching.{slot}
 use Rattle.stages.specs.Stages.{KeepsPlan, source_plan, setup_plan, schedule_plan, run_plan}
 use Rattle.stages.proofs.Parts.{Went, told, both_told, of_all, goes_on, went_nowhere, fails_after}
 

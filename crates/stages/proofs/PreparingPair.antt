@@ -1,5 +1,5 @@
 -- What a run of two blocks reads, part by part: its source, both configurations, its stimulus.
-use Rattle.std.proofs.Common.{◌≡◌, ◌∙◌, ℕ, true, Option, Some, IfSome, List, [], ◌∷◌, Result, Ok, Err, refl, ap}
+use Rattle.std.proofs.Common.{◌≡◌, ◌∙◌, ℕ, true, Option, Some, IfSome, List, [], ◌∷◌, Err, refl, ap}
 use Rattle.pio_edge.specs.Edge.{Files}
 use Rattle.pio_edge.specs.declared.shelf.Shelf.{Ghosts as ShelfSeen}
 use Rattle.pio_assemble.specs.Program.{Assembled}

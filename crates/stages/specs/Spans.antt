@@ -79,25 +79,26 @@ HasVerdicts u P = (found : List (Result Finding Refusal)) × AreVerdicts u u.spa
 
 -- ---- what the stages that ask spans give
 
--- the place of the first span that isn't provable, its name, and why, once this verdict on the span of this place and
--- name comes after those before it
-abbrev pub first_refused : Option (ℕ × List ℕ × Refusal) → (place : ℕ) → (name : List ℕ) → Result Finding Refusal → Option (ℕ × List ℕ × Refusal)
-first_refused None place name (Err refusal) = Some (place, name, refusal)
+-- the fault of the first span that isn't provable, with its place, its name and why, once this verdict on the span of
+-- this place and name comes after those before it
+abbrev pub first_refused : Option Fault → (place : ℕ) → (name : List ℕ) → Result Finding Refusal → Option Fault
+first_refused None place name (Err refusal) = Some (fault.Unproved place name refusal)
 first_refused None place name (Ok told) = None
 first_refused (Some earlier) place name found = Some earlier
 
--- each of these spans is provable, or this is the first one that isn't, and why
-abbrev pub IsFirstOf : Setup → List Span → Option (ℕ × List ℕ × Refusal) → Type 0
+-- each of these spans is provable, or this is the fault of the first one that isn't
+abbrev pub IsFirstOf : Setup → List Span → Option Fault → Type 0
 IsFirstOf u spans None = AllByRecursion (IsProvableAlone u) spans
-IsFirstOf u spans (Some refused) = IsFirstRefused u spans refused.0 refused.1 refused.2
+IsFirstOf u spans (Some (fault.Unproved place name refusal)) = IsFirstRefused u spans place name refusal
+IsFirstOf u spans (Some e) = ⊥
 
 -- a verdict on each of these spans, and the first one that isn't provable
-pub record AreJudged (u : Setup) (spans : List Span) (found : List (Result Finding Refusal)) (refused : Option (ℕ × List ℕ × Refusal)) : Type 0 where
+pub record AreJudged (u : Setup) (spans : List Span) (found : List (Result Finding Refusal)) (refused : Option Fault) : Type 0 where
   pub verdicts : AreVerdicts u spans found
   pub first : IsFirstOf u spans refused
 
 -- a verdict on the span at this place came after the others
-pub record IsNextVerdict (u : Setup) (place : ℕ) (sp : Span) (before after : List (Result Finding Refusal)) (earlier refused : Option (ℕ × List ℕ × Refusal)) : Type 0 where
+pub record IsNextVerdict (u : Setup) (place : ℕ) (sp : Span) (before after : List (Result Finding Refusal)) (earlier refused : Option Fault) : Type 0 where
   pub found : Result Finding Refusal
   pub verdict : IsVerdictOn u sp found
   pub more : after ≡ before ++ found ∷ []

@@ -10,8 +10,10 @@ use pin_matrix::{Setup, Span};
 /// configured.
 pub fn span_named<'a>(setup: &'a Setup, name: &str) -> Option<(usize, &'a Span)>
     requires { AreConfigured setup.now }
-    ensures first { option_map (λ found. (found.0, found.1.now)) result ≡ spec.named_from 0 name.now setup.now.spans }
-    ensures configured { IfSome result (λ found. IsSome (slice_index_or setup.now.machines found.1.now.machine None)) }
+    ensures first { option_map (λ found. (found.0, found.1.now)) result
+        ≡ spec.named_from 0 name.now setup.now.spans }
+    ensures configured { IfSome result
+        (λ found. IsSome (slice_index_or setup.now.machines found.1.now.machine None)) }
 {
     let spans = setup.spans.as_slice();
     for place in 0..spans.len() {

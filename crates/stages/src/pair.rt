@@ -32,7 +32,9 @@ pub fn prepare_pair<F: Shelf>(
     shelf: &mut F,
     files: PairFiles,
 ) -> Result<TwoBlocks, Fault>
-    ensures plan { KeepsPlan F.Shelf (pair_plan files.entry.source.now files.entry.config.now files.entry.second.now (option_map (λ t. t.now) files.entry.stimulus))
+    ensures plan { KeepsPlan F.Shelf
+        (pair_plan files.entry.source.now files.entry.config.now files.entry.second.now
+        (option_map (λ t. t.now) files.entry.stimulus))
         (λ p. p) shelf.old shelf.new result }
     ensures first { IfOk result (λ p. AreConfigured p.first) }
     ensures second { IfOk result (λ p. AreConfigured p.second) }

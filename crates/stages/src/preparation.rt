@@ -37,7 +37,9 @@ pub fn prepare<F: Shelf>(
     shelf: &mut F,
     files: RunFiles,
 ) -> Result<(Setup, Schedule), Fault>
-    ensures plan { KeepsPlan F.Shelf (run_plan files.entry.source.now (option_map (λ t. t.now) files.entry.config) (option_map (λ t. t.now) files.entry.stimulus))
+    ensures plan { KeepsPlan F.Shelf
+        (run_plan files.entry.source.now (option_map (λ t. t.now) files.entry.config)
+        (option_map (λ t. t.now) files.entry.stimulus))
         (λ p. (p.0, p.1)) shelf.old shelf.new result }
     ensures configured { IfOk result (λ p. AreConfigured p.0) }
 {

@@ -23,7 +23,8 @@ pub fn read_setup<F: Shelf>(
     name: Option<&str>,
     programs: &[Program],
 ) -> Result<Setup, Fault>
-    ensures plan { KeepsPlan F.Shelf (setup_plan (option_map (λ t. t.now) name.entry) (map assembled_of programs.now))
+    ensures plan { KeepsPlan F.Shelf
+        (setup_plan (option_map (λ t. t.now) name.entry) (map assembled_of programs.now))
         (λ setup. setup) shelf.old shelf.new result }
     ensures configured { IfOk result AreConfigured }
 {

@@ -11,12 +11,12 @@ use span_check::{a_provable_span_holds_in_every_run, check};
 use span_texts::{Finding, Refusal, found_by};
 use std::alloc::{AllocError, Global};
 
-/// The verdicts on all spans of a setup, in order; and the place of the first one that isn't provable, from 0 on, its
-/// name, and why.
+/// The verdicts on all spans of a setup, in order; and the fault of the first one that isn't provable, where there is
+/// one.
 #[derive(Drop)]
 pub struct Verdicts {
     pub found: Vec<Result<Finding, Refusal>>,
-    pub refused: Option<(usize, Name, Refusal)>,
+    pub refused: Option<Fault>,
 }
 
 /// Asks that each span be provable; then each holds in every run. The machines of the spans are configured. The fault
@@ -30,7 +30,7 @@ pub fn ask_spans(alloc: Global, setup: &Setup) -> Result<(), Fault>
 }
 
 /// Ends with the fault of the first span that isn't provable, where there is one. Else each holds in every run.
-pub fn refuse(setup: &Setup, refused: Option<(usize, Name, Refusal)>) -> Result<(), Fault>
+pub fn refuse(setup: &Setup, refused: Option<Fault>) -> Result<(), Fault>
     requires configured { AreConfigured setup.now }
     requires first { IsFirstOf setup.now setup.now.spans refused }
     ensures asked { AreAsked setup.now result }
@@ -38,7 +38,7 @@ pub fn refuse(setup: &Setup, refused: Option<(usize, Name, Refusal)>) -> Result<
 {
     a_provable_span_holds_in_every_run();
     match refused {
-        Some((place, name, refusal)) => Err(Fault::Unproved(place, name, refusal)),
+        Some(fault) => Err(fault),
         None => Ok(()),
     }
 }
@@ -47,7 +47,8 @@ pub fn refuse(setup: &Setup, refused: Option<(usize, Name, Refusal)>) -> Result<
 /// dropped as it comes. The error is out of memory.
 pub fn judge_spans(alloc: Global, setup: &Setup) -> Result<Verdicts, AllocError>
     requires { AreConfigured setup.now }
-    ensures { IfOk result (λ verdicts. AreJudged setup.now setup.now.spans verdicts.found.items verdicts.refused) }
+    ensures { IfOk result (λ verdicts.
+        AreJudged setup.now setup.now.spans verdicts.found.items verdicts.refused) }
 {
     let spans = setup.spans.as_slice();
     let mut verdicts = Verdicts {
@@ -69,8 +70,8 @@ fn judge_next(
     verdicts: &mut Verdicts,
 ) -> Result<(), AllocError>
     requires { IsSome (slice_index_or setup.now.machines span.now.machine None) }
-    ensures { IfOk result (λ _. IsNextVerdict setup.now place span.now verdicts.old.found.items verdicts.new.found.items
-        verdicts.old.refused verdicts.new.refused) }
+    ensures { IfOk result (λ _. IsNextVerdict setup.now place span.now verdicts.old.found.items
+        verdicts.new.found.items verdicts.old.refused verdicts.new.refused) }
 {
     let found = judge_span(alloc, setup, span)?;
     note_refusal(alloc, place, span, &found, &mut verdicts.refused)?;
@@ -108,7 +109,7 @@ fn note_refusal(
     place: usize,
     span: &Span,
     found: &Result<Finding, Refusal>,
-    refused: &mut Option<(usize, Name, Refusal)>,
+    refused: &mut Option<Fault>,
 ) -> Result<(), AllocError>
     ensures { IfOk result (λ _. refused.new ≡ spec.first_refused refused.old place span.now.name found.now) }
 {
@@ -119,7 +120,7 @@ fn note_refusal(
         Ok(_) => Ok(()),
         Err(refusal) => {
             let text = String::from_str(alloc, span.name.as_str())?;
-            *refused = Some((place, Name::new(text), *refusal));
+            *refused = Some(Fault::Unproved(place, Name::new(text), *refusal));
             Ok(())
         }
     }

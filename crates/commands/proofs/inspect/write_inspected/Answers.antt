@@ -1,12 +1,11 @@
-use Rattle.std.proofs.Common.{rules, ◌≡◌, Bool, List, ℕ, is_some, map, refl, ap}
+use Rattle.std.proofs.Common.{rules, refl, ap}
 use Rattle.std.proofs.lemmas.Result.{on_err_weaker, on_ok_weaker}
-use Rattle.block_core.specs.Block.{Run, first_run}
 use Rattle.block_core.specs.Inside.{insides}
 use Rattle.pio_edge.specs.Edge.{PutCounts, Takes}
 use Rattle.vcd_trace.specs.InsideText.{inside_text, inside_text_of}
 use Rattle.vcd_trace.specs.InsideTold.{told_first}
 use Rattle.commands.specs.Tasks.{inspected_text}
-use Rattle.commands.proofs.Stopping.{stops_as, takes}
+use Rattle.commands.proofs.StoppedRuns.{stops_as, takes}
 use Rattle.commands.proofs.inspect.write_inspected.Goals as goal
 
 pub returns-clause-ends : goal.returns-clause-ends

@@ -1,7 +1,7 @@
 use Rattle.std.proofs.Common.{ap}
 use Rattle.commands.specs.Tasks.{sent_text}
 use Rattle.serial_receiver.specs.FrameText.{frames_text}
-use Rattle.commands.proofs.Enough.{all_of}
+use Rattle.commands.proofs.AllFramesSent.{all_of}
 use Rattle.commands.proofs.laws.clocks_enough_send_all.Goals as goal
 
 pub returns : goal.returns

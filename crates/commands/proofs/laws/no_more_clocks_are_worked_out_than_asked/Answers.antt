@@ -1,4 +1,4 @@
-use Rattle.commands.proofs.Working.{most_asked}
+use Rattle.commands.proofs.WorkedClocks.{most_asked}
 use Rattle.commands.proofs.laws.no_more_clocks_are_worked_out_than_asked.Goals as goal
 
 pub returns : goal.returns

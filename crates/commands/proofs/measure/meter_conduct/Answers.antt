@@ -2,7 +2,7 @@ use Rattle.std.proofs.Common.{refl, map}
 use Rattle.span_meter.specs.Events.{events_in}
 use Rattle.span_meter.specs.SpokenMeters.{spoken_told}
 use Rattle.span_meter.proofs.ConductLists.{timely_conducts}
-use Rattle.commands.proofs.Seen.{spoken_names}
+use Rattle.commands.proofs.MetersSeen.{spoken_names}
 use Rattle.commands.proofs.measure.meter_conduct.Goals as goal
 
 pub returns-clause-spoken : goal.returns-clause-spoken

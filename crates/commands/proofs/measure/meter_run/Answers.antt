@@ -1,6 +1,6 @@
 use Rattle.std.proofs.Common.{refl}
 use Rattle.span_meter.specs.Meters.{first_told, watched}
-use Rattle.commands.proofs.Seen.{names}
+use Rattle.commands.proofs.MetersSeen.{names}
 use Rattle.commands.proofs.measure.meter_run.Goals as goal
 
 pub returns-clause-measured : goal.returns-clause-measured

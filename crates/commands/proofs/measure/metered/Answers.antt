@@ -2,7 +2,7 @@ use Rattle.std.proofs.Common.{sym, ap, ◌∙◌}
 use Rattle.block_core.specs.Block.{first_run}
 use Rattle.block_core.specs.Shown.{sample_of}
 use Rattle.span_meter.specs.Measured.{pins_of}
-use Rattle.commands.proofs.Seen.{plain_in_run, spoken_in_run}
+use Rattle.commands.proofs.MetersSeen.{plain_in_run, spoken_in_run}
 use Rattle.commands.proofs.measure.metered.Goals as goal
 
 pub returns-then-is_any_selective-clause-seen : goal.returns-then-is_any_selective-clause-seen

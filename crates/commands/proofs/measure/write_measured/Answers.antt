@@ -2,7 +2,7 @@ use Rattle.std.proofs.Common.{List, ℕ, subst}
 use Rattle.block_core.specs.Block.{first_run}
 use Rattle.commands.specs.Written.{Writes}
 use Rattle.fault_lines.specs.Output.{output_of}
-use Rattle.commands.proofs.Seen.{as_many, lines_are_text}
+use Rattle.commands.proofs.MetersSeen.{as_many, lines_are_text}
 use Rattle.commands.proofs.measure.write_measured.Goals as goal
 
 pub write_lines-requires : goal.write_lines-requires

@@ -1,7 +1,7 @@
 use Rattle.std.proofs.Common.{◌∙◌}
 use Rattle.pio_edge.proofs.PutLaws.{going_ends, going_on, takes_failed}
 use Rattle.commands.specs.Metered.{seen_of_each}
-use Rattle.commands.proofs.LineByLine.{seen_lines-end, seen_lines-turn}
+use Rattle.commands.proofs.SeenLines.{seen_lines-end, seen_lines-turn}
 use Rattle.commands.proofs.measured_lines.put_lines.Goals as goal
 
 pub returns-in_err-put_line-clause-bytes : goal.returns-in_err-put_line-clause-bytes

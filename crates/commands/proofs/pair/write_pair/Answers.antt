@@ -4,7 +4,7 @@ use Rattle.block_core.specs.HostedTwin.{twin_samples}
 use Rattle.pio_edge.specs.Edge.{PutCounts, Takes}
 use Rattle.vcd_trace.specs.TwinText.{twin_text_of, twin_text}
 use Rattle.commands.specs.Tasks.{twin_start, twin_trace_text}
-use Rattle.commands.proofs.Stopping.{stops_as, takes}
+use Rattle.commands.proofs.StoppedRuns.{stops_as, takes}
 use Rattle.commands.proofs.pair.write_pair.Goals as goal
 
 pub returns-clause-ends : goal.returns-clause-ends

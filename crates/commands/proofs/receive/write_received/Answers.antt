@@ -10,7 +10,7 @@ use Rattle.serial_receiver.specs.Frames.{frames, levels_of}
 use Rattle.serial_receiver.specs.FrameText.{frames_text}
 use Rattle.serial_receiver.specs.Hearing.{first_heard}
 use Rattle.commands.specs.Tasks.{received_text}
-use Rattle.commands.proofs.Stopping.{stops_as, takes}
+use Rattle.commands.proofs.StoppedRuns.{stops_as, takes}
 use Rattle.commands.proofs.receive.write_received.Goals as goal
 
 pub returns-clause-ends : goal.returns-clause-ends

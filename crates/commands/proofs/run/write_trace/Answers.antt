@@ -5,7 +5,7 @@ use Rattle.block_core.specs.Hosted.{samples}
 use Rattle.pio_edge.specs.Edge.{PutCounts, Takes}
 use Rattle.vcd_trace.specs.VcdText.{text_of, vcd_text}
 use Rattle.commands.specs.Tasks.{trace_text}
-use Rattle.commands.proofs.Stopping.{stops_as, takes}
+use Rattle.commands.proofs.StoppedRuns.{stops_as, takes}
 use Rattle.commands.proofs.run.write_trace.Goals as goal
 
 pub returns-clause-ends : goal.returns-clause-ends

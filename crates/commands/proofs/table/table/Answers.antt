@@ -1,44 +1,30 @@
-use Rattle.std.proofs.Common.{ap, option_map, None, Some, [], ◌∷◌, arith}
+use Rattle.std.proofs.Common.{option_map, arith}
 use Rattle.std.proofs.lemmas.Result.{err_from_is_err_and}
-use Rattle.commands.proofs.Ending.{table_unread, no_span_ends, table_found_ends}
-use Rattle.fault_lines.specs.declared.fault.File.TheVariants.{Source, Config, Stimulus}
-use Rattle.stages.specs.Fetching.{slot, one_slot}
-use Rattle.stages.proofs.Asking.{stops_last, stops_first}
-use Rattle.commands.proofs.Asking.{table_asks, table_unread_asks}
+use Rattle.pin_matrix.specs.declared.setup.Setup.{Setup}
+use Rattle.pin_matrix.specs.declared.span.Span.{Span}
+use Rattle.stages.proofs.Parts.{made}
+use Rattle.stages.proofs.Spanned.{span_fails, span_found, no_span}
+use Rattle.commands.specs.Tasks.{tabled}
+use Rattle.commands.proofs.PromiseKept.{unread, did}
+use Rattle.commands.proofs.TaskDone.{named_at}
 use Rattle.commands.proofs.table.table.Goals as goal
 
 pub returns-in_err-setup : goal.returns-in_err-setup
 returns-in_err-setup g c =
     let p = err_from_is_err_and c.from_residual.result c.from_residual.ensures.1 in
-    let k = c.in_err-setup.ensures.plan in
-    rw (p.1, p.2) (record {
-      ends = table_unread _ _ _ _ c.args.source.now (option_map (λ t. t.now) c.args.config) c.args.name.now _ _ _ k.stage k.asked;
-      asked = table_unread_asks c.args.source.now (option_map (λ t. t.now) c.args.config) c.args.name.now _ _ _ k.asked;
-      same = k.same;
-      worked = omega arith;
-    })
+    rw (p.1, p.2) (unread _ g.F.Shelf g.O.Sink _ _ _ _ _ _ (made g.F.Shelf _ (λ asked. tabled asked.0 asked.1) _ _ _ _ (span_fails g.F.Shelf c.args.source.now (option_map (λ t. t.now) c.args.config) c.args.name.now _ (λ (asked : Setup × Span). asked) _ _ _ c.in_err-setup.ensures.plan)))
+
+pub tell_table-requires-clause-named : goal.tell_table-requires-clause-named
+tell_table-requires-clause-named g c =
+    named_at _ _ _ _ c.in-Some.ensures.first
 
 pub returns-in-Some : goal.returns-in-Some
 returns-in-Some g c =
-    let k = c.in_ok-setup.ensures.plan in
-    record {
-      ends = table_found_ends _ _ _ _ _ c.args.source.now (option_map (λ t. t.now) c.args.config) c.args.name.now _ _ _ _ _
-          k.stage.0 k.stage.1 c.in-Some.ensures.first c.tell_table.ensures;
-      asked = table_asks c.args.source.now (option_map (λ t. t.now) c.args.config) c.args.name.now _ _ _ _ _ _ _ _
-          k.asked c.tell_table.ensures;
-      same = k.same;
-      worked = omega arith;
-    }
+    did _ g.F.Shelf g.O.Sink _ _ _ _ _ _ _ _ _ (made g.F.Shelf _ (λ asked. tabled asked.0 asked.1) _ _ _ _ (span_found g.F.Shelf c.args.source.now (option_map (λ t. t.now) c.args.config) c.args.name.now _ _ _ _ _ _ c.in_ok-setup.ensures.plan c.in-Some.ensures.first)) tt
+    (c.tell_table.ensures)
+    (omega arith)
 
 pub returns : goal.returns
 returns g c =
-    let k = c.in_ok-setup.ensures.plan in
-    record {
-      ends = no_span_ends _ _ _ _ c.args.source.now (option_map (λ t. t.now) c.args.config) c.args.name.now _ _
-          k.stage.0 k.stage.1 (ap (option_map (λ p. p.1)) c.in-None.ensures.first);
-      asked = stops_first (slot Source (Some c.args.source.now) ∷ slot Config (option_map (λ t. t.now) c.args.config) ∷ [])
-          (one_slot Stimulus None) _ _ _
-          (stops_last (one_slot Source (Some c.args.source.now)) Config (option_map (λ t. t.now) c.args.config) _ _ k.asked);
-      same = k.same;
-      worked = omega arith;
-    }
+    unread _ g.F.Shelf g.O.Sink _ _ _ _ _ _ (made g.F.Shelf _ (λ asked. tabled asked.0 asked.1) _ _ _ _
+    (no_span g.F.Shelf c.args.source.now (option_map (λ t. t.now) c.args.config) c.args.name.now _ _ (λ (asked : Setup × Span). asked) _ _ c.in_ok-setup.ensures.plan c.in-None.ensures.first))

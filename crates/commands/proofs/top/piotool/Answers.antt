@@ -1,6 +1,6 @@
 use Rattle.std.proofs.Common.{rules}
-use Rattle.commands.proofs.Quiet.{files_decide}
-use Rattle.commands.proofs.Working.{most_of_words}
+use Rattle.commands.proofs.QuietEnds.{files_decide}
+use Rattle.commands.proofs.WorkedClocks.{most_of_words}
 use Rattle.commands.proofs.top.piotool.Goals as goal
 
 pub returns-clause-complete : goal.returns-clause-complete

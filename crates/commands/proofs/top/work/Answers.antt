@@ -1,8 +1,8 @@
 use Rattle.std.proofs.Common.{map, string_bytes, refl, subst}
 use Rattle.command_line.specs.Words.{asked_by, IsFaultOfWords, WordsAreRefused}
 use Rattle.commands.specs.Outside.{call_by}
-use Rattle.commands.proofs.Wanting.{work_ends, usage_ends, never_usage}
-use Rattle.commands.proofs.Asking.{work_asks, usage_asks, memory_asks}
+use Rattle.commands.proofs.WordsWanted.{work_ends, usage_ends, never_usage}
+use Rattle.commands.proofs.FilesAsked.{work_asks, usage_asks, memory_asks}
 use Rattle.commands.proofs.top.work.Goals as goal
 
 pub returns-in-Ok-clause-ends : goal.returns-in-Ok-clause-ends
@@ -16,7 +16,7 @@ returns-in-Err-Usage-clause-ends g c =
 
 pub returns-in-Ok-clause-asked : goal.returns-in-Ok-clause-asked
 returns-in-Ok-clause-asked g c =
-    work_asks _ (asked_by c.in-Ok.order) _ _ c.obey.result c.in-Ok.ensures.ok c.in-Ok.ensures.range c.obey.ensures.asked
+    work_asks _ (asked_by c.in-Ok.order) _ _ c.obey.result c.in-Ok.ensures.ok c.in-Ok.ensures.range c.obey.ensures.fetched
 
 pub returns-in-Err-Usage-clause-asked : goal.returns-in-Err-Usage-clause-asked
 returns-in-Err-Usage-clause-asked g c =

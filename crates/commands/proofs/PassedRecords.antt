@@ -1,10 +1,13 @@
 -- What each command has done where it passes: from the end of a call to the record of its command.
-use Rattle.std.proofs.Common.{◌≡◌, ℕ, Bool, Option, Some, None, List, refl, subst}
+use Rattle.std.proofs.Common.{◌≡◌, ℕ, Bool, Option, Some, None, List, [], refl, ap, subst}
 use Rattle.clap.specs.Walk.{Text}
 use Rattle.pio_edge.specs.Edge.{Files, with_bytes}
 use Rattle.std.specs.FinMap.{get}
 use Rattle.program_listing.specs.Listing.{listing_text}
 use Rattle.word_file.specs.Listing.{word_lines, rule_for}
+use Rattle.pio_assemble.specs.Program.{Assembled}
+use Rattle.pin_matrix.specs.declared.setup.Setup.{Setup}
+use Rattle.dreq_pacing.specs.declared.line.Line.{Line}
 use Rattle.block_core.specs.Block.{first_run}
 use Rattle.block_shares.specs.Report.{shares_text}
 use Rattle.fault_lines.specs.Told.{status_of}
@@ -12,7 +15,7 @@ use Rattle.fault_lines.specs.declared.fault.Fault.{Fault}
 use Rattle.fault_lines.specs.declared.fault.Fault.TheVariants as fault
 use Rattle.fault_lines.specs.declared.fault.File.TheVariants.{Send}
 use Rattle.command_line.specs.Words.{Asked, asm, run, check, table, recheck, shares, gen, dis, measure, receive, uart, pair, inspect}
-use Rattle.stages.specs.Judged.{Judged, right, wrong, and_then, IfRight, read_at, source_at, words_at, prepared_at, span_at, recheck_at, pair_at}
+use Rattle.stages.specs.Judged.{Judged, right, wrong, and_then, IfRight, read_at, source_at, setup_at, words_at, prepared_at, span_at, recheck_at, pair_at}
 use Rattle.commands.specs.Outside.{Call}
 use Rattle.commands.specs.Needs.{IsMet, AllRunsHold}
 use Rattle.commands.specs.Tasks.{Task, listing, trace, twin_trace, verdicts, tabled, rechecked, judge, trace_text, twin_start, twin_trace_text, measured_text, received_text, inspected_text, sent_text}
@@ -20,7 +23,7 @@ use Rattle.commands.specs.Promise.{Passes, Ends}
 use Rattle.commands.specs.Ends.{EndsAs}
 use Rattle.commands.specs.Wanted.{wanted}
 use Rattle.commands.specs.Passed.{Passed, Writing, RunPassed, PairPassed, CheckPassed, TablePassed, RecheckPassed, MeasurePassed, ReceivePassed, InspectPassed, UartPassed, SharesPassed, GenPassed, AsmPassed, DisPassed}
-use Rattle.commands.proofs.Quiet.{of_told, TookText}
+use Rattle.commands.proofs.QuietEnds.{of_told, TookText}
 
 -- only a call without a fault has status 0
 pub no_fault : (found : Option Fault) → status_of found ≡ 0 → found ≡ None
@@ -61,6 +64,27 @@ made_of : {X : Type 0} (c : Call) (j : Judged X) (task : X → Task) → Done c 
     → (x : X) × (j ≡ right x) × TookText c (task x) × IsMet (task x) × AllRunsHold (task x)
 made_of c (right x) task h = (x, refl, h.0, h.1, h.2)
 made_of c (wrong e) task h = absurd h.0
+
+-- a run without a stimulus has no lines
+abbrev without_lines : Setup → Judged (Setup × List Line)
+without_lines setup = right (setup, [])
+
+of_setup : (j : Judged Setup) (u : Setup) (lines : List Line) → and_then j without_lines ≡ right (u, lines) → and_then j without_lines ≡ right (u, [])
+of_setup (right setup) u lines e =
+    let pair : ◌≡◌ {A = Setup × List Line} (setup, []) (u, lines) = cc in
+    ap (λ (p : Setup × List Line). without_lines p.0) pair
+of_setup (wrong fault) u lines e = cc
+
+of_source : (j : Judged (List Assembled)) (next : List Assembled → Judged Setup) (u : Setup) (lines : List Line)
+    → and_then j (λ programs. and_then (next programs) without_lines) ≡ right (u, lines)
+    → and_then j (λ programs. and_then (next programs) without_lines) ≡ right (u, [])
+of_source (right programs) next u lines e = of_setup (next programs) u lines e
+of_source (wrong fault) next u lines e = cc
+
+no_lines : (f : Files) (source : List ℕ) (config : Option (List ℕ)) (u : Setup) (lines : List Line) → prepared_at f source config None ≡ right (u, lines)
+    → prepared_at f source config None ≡ right (u, [])
+unfolding prepared_at
+no_lines f source config u lines e = of_source (source_at f source) (setup_at f config) u lines e
 
 -- a text that was taken was written
 writing : (c : Call) (f : Files) (a : Asked) (text : List ℕ) → Passed c f a
@@ -103,8 +127,7 @@ check_passed c f source config p =
     let m = made_of c (prepared_at f source config None) (λ prepared. verdicts prepared.0) (done c f _ p) in
     record {
       setup = m.0.0;
-      lines = m.0.1;
-      given = m.1;
+      given = no_lines f source config _ _ m.1;
       found = m.2.0;
       verdicts = m.2.1;
       wrote = writing c f _ _ p m.2.2;
@@ -177,7 +200,7 @@ pub shares_passed : (c : Call) (f : Files) (source : List ℕ) (config : Option 
 unfolding judge
 shares_passed c f source config p =
     let m = made_of c (prepared_at f source config None) (λ prepared. listing (shares_text prepared.0)) (done c f _ p) in
-    record { setup = m.0.0; lines = m.0.1; given = m.1; wrote = writing c f _ _ p m.2 }
+    record { setup = m.0.0; given = no_lines f source config _ _ m.1; wrote = writing c f _ _ p m.2 }
 
 pub gen_passed : (c : Call) (f : Files) (seed clocks : ℕ) → Passed c f (gen seed clocks) → GenPassed c seed clocks
 unfolding judge

@@ -19,7 +19,7 @@ use Rattle.commands.specs.Metered.{seen_of_each}
 use Rattle.commands.specs.Tasks.{measured_text, seen_in}
 use Rattle.commands.specs.Lines.{seen_lines}
 use Rattle.span_meter.proofs.PlainSpans.{all_spoken, plain_assumes}
-use Rattle.commands.proofs.LineByLine.{lines_of_each}
+use Rattle.commands.proofs.SeenLines.{lines_of_each}
 
 -- a fresh meter names its pins and its edges
 pub names : (pins : ShownPins) (ends : List SpanEdges) (t : Meters) → HasMeasured pins ends [] t → first_told t.first (watched t.meters) ≡ first_told pins ends
