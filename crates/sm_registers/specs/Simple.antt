@@ -19,8 +19,8 @@ use Rattle.sm_registers.specs.declared.simple.Tried.{Tried}
 use Rattle.sm_registers.specs.declared.simple.Tried.TheVariants.{NotSimple, DoneReady}
 use Rattle.sm_registers.specs.Idling.{is_unmet}
 use Rattle.sm_registers.specs.Intents.{no_wants, wants_of, written_by}
-use Rattle.sm_registers.specs.State.{MachineState, queues_of}
-use Rattle.sm_registers.specs.Tick.{current_word, tick_of}
+use Rattle.sm_registers.specs.State.{MachineState, tick_in}
+use Rattle.sm_registers.specs.Tick.{current_word}
 
 -- it has all its effects in its first tick, and none of them is at a FIFO or a flag (RP2040 Datasheet, sections 3.4.2, 3.4.8, 3.4.10)
 abbrev pub has_no_wish : Act → Bool
@@ -54,9 +54,9 @@ is_simple s v r = let act = (reading_of (current_word v r) s.side_rule).act in
 
 -- A machine made a tick that wants nothing but pins, which are written over those of the machines before it.
 pub record MakesTick (v : View) (m after : MachineState) (o put : Outputs) : Type 0 where
-  pub state : after ≡ record m { registers = (tick_of m.setup v (queues_of m.ports.fifos) m.registers).0 }
-  pub outputs : put ≡ written_by o (tick_of m.setup v (queues_of m.ports.fifos) m.registers).1
-  pub wants : wants_of (tick_of m.setup v (queues_of m.ports.fifos) m.registers).1 ≡ no_wants
+  pub state : after ≡ record m { registers = (tick_in v m).0 }
+  pub outputs : put ≡ written_by o (tick_in v m).1
+  pub wants : wants_of (tick_in v m).1 ≡ no_wants
 
 -- it was done
 abbrev pub is_done : Tried → Bool

@@ -3,6 +3,7 @@
 --   MachineState            all of a machine
 --   first_machine           as a setup begins
 --   queues_of               what a tick sees of the FIFOs
+--   tick_in                 the machine's next tick
 --   settled_ports           the ports after a clock
 --   uses_fifos              whether anything is done at the FIFOs in a clock
 --   shown_of                what can be seen of a machine
@@ -15,6 +16,8 @@ use Rattle.sm_registers.specs.declared.intent.Intent.{Intent}
 use Rattle.sm_registers.specs.declared.sticky.TheConstants.{TX_OVER, RX_UNDER}
 use Rattle.sm_registers.specs.declared.shown.Shown.{Shown}
 use Rattle.sm_registers.specs.Ranges.{IsPlaced}
+use Rattle.sm_registers.specs.Tick.{tick_of}
+use Rattle.sm_registers.specs.View.{View}
 
 -- the FIFOs, the last word that the system read, and the sticky FIFO flags
 pub record MachinePorts : Type 0 where
@@ -61,6 +64,10 @@ queues_of f = record {
   rx_level = length f.rx;
   rx_full = is_full f.rx_room f.rx;
 }
+
+-- the machine's next tick: the registers after it, and what it does outside them
+abbrev pub tick_in : View → MachineState → Registers × Intent
+tick_in v m = tick_of m.setup v (queues_of m.ports.fifos) m.registers
 
 -- the sticky flags of the system's accesses
 abbrev pub told : (over under : Bool) → ℕ

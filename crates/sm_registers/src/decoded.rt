@@ -70,6 +70,16 @@ impl Decoded {
         }
     }
 
+    /// The word that was last read at a place, with what it means.
+    #[inline(always)]
+    pub fn reading(&self, place: u8) -> &Reading
+        requires { place ≤ 32 }
+        ensures word { result.now.word ≡ slice_index self.now.words place }
+        ensures reading { IsReading self.now.setup place result.now }
+    {
+        &self.readings[usize::from(place)]
+    }
+
     /// What a word at a place does. It is decoded only where another one was last read there.
     #[inline(always)]
     pub fn act(&self, place: u8, word: u16) -> Act
@@ -95,16 +105,6 @@ impl Decoded {
         ensures setup { self.new.setup ≡ self.old.setup }
     {
         self.readings[usize::from(place)] = read_word(place, word, &self.setup);
-    }
-
-    /// The word that was last read at a place, with what it means.
-    #[inline(always)]
-    pub fn reading(&self, place: u8) -> &Reading
-        requires { place ≤ 32 }
-        ensures word { result.now.word ≡ slice_index self.now.words place }
-        ensures reading { IsReading self.now.setup place result.now }
-    {
-        &self.readings[usize::from(place)]
     }
 }
 

@@ -15,14 +15,14 @@ pub enum Kind {
     Off,
     /// The first tick of an instruction.
     First,
-    /// One of an instruction that stalled before.
+    /// One of an instruction that has begun: it stalled in each tick before.
     Late,
     /// One of the delay after an instruction.
     Delay,
 }
 
 impl Kind {
-    /// That of a tick of an instruction, by whether it stalled before.
+    /// That of a tick of an instruction, by whether the instruction had begun.
     #[inline(always)]
     pub(crate) fn of(begun: bool) -> Kind
         ensures { result ≡ if begun then Late else First }

@@ -24,7 +24,8 @@ pub(crate) fn jmp_effect(
     view: &View,
     registers: &mut Registers,
 ) -> End
-    ensures { effect_by registers.new no_intent result ≡ spec.jmp_effect condition address setup.now view.now registers.old }
+    ensures { effect_by registers.new no_intent result
+        ≡ spec.jmp_effect condition address setup.now view.now registers.old }
 {
     match condition {
         Condition::Always => End::Jumps(address),

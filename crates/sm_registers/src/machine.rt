@@ -3,9 +3,8 @@ ghost use Rattle.std.specs.Prelude.{◌≡◌, ℕ, ◌-◌, ◌<◌, false, tru
 ghost use Rattle.sm_registers.specs.Idling.{IsIdle, IsSoon, after_ticks, begins_next, idle_of, stirs_at};
 ghost use Rattle.sm_registers.specs.Simple.{MakesTick, is_done, is_ready, is_simple, leaves_ready};
 ghost use Rattle.sm_registers.specs.declared.intent.Intent as spec_intent;
-ghost use Rattle.sm_registers.specs.State.{IsKept, first_machine, queues_of, settled_ports, shown_of, uses_fifos};
+ghost use Rattle.sm_registers.specs.State.{IsKept, first_machine, queues_of, settled_ports, shown_of, tick_in, uses_fifos};
 ghost use Rattle.sm_registers.specs.State as spec;
-ghost use Rattle.sm_registers.specs.Tick as spec_tick;
 
 use crate::decoded::Decoded;
 use crate::idle::Idle;
@@ -14,7 +13,7 @@ use crate::intent::Intent;
 use crate::outputs::Outputs;
 use crate::registers::Registers;
 use crate::shown::Shown;
-use crate::simple::{Tried, begins, planned_effect};
+use crate::simple::{Tried, begins_anew, planned_effect};
 use crate::sticky::{RX_UNDER, TX_OVER};
 use crate::tick::{conclude, current_word, tick_of};
 use crate::view::View;
@@ -81,15 +80,26 @@ impl<F: Fifo> Machine<F> {
         &self.registers
     }
 
+    /// What can be seen of it.
+    pub fn shown(&self) -> Shown
+        ensures value { result ≡ shown_of self.now.ports }
+        ensures kept { IsKept self.now.setup self.now.registers self.now.ports.fifos }
+    {
+        Shown {
+            tx: self.tx_level(),
+            rx: self.rx_level(),
+            tx_full: self.fifos.tx_full(),
+            rx_empty: self.rx_level() == 0,
+            got: self.got,
+            sticky: self.sticky,
+        }
+    }
+
     /// One tick. Its registers change; what it does outside them, `settle` and the block carry out.
     #[inline(always)]
     pub fn tick(&mut self, view: &View) -> Intent
-        ensures state { self.new ≡ record self.old {
-          registers =
-              (spec_tick.tick_of self.old.setup view.now (queues_of self.old.ports.fifos) self.old.registers).0;
-        } }
-        ensures intent { result
-            ≡ (spec_tick.tick_of self.old.setup view.now (queues_of self.old.ports.fifos) self.old.registers).1 }
+        ensures state { self.new ≡ record self.old { registers = (tick_in view.now self.old).0 } }
+        ensures intent { result ≡ (tick_in view.now self.old).1 }
         ensures take { IsTrue result.take → 0 < length self.new.ports.fifos.tx }
         ensures word { IsSome result.word → length self.new.ports.fifos.rx < self.new.ports.fifos.rx_room }
     {
@@ -110,18 +120,22 @@ impl<F: Fifo> Machine<F> {
     pub fn simple_tick(&mut self, view: &View, outputs: &mut Outputs, ready: bool) -> Tried
         requires ready { ready ≡ true → is_ready self.old.setup self.old.registers ≡ true }
         ensures simple { is_done result ≡ is_simple self.old.setup view.now self.old.registers }
-        ensures done { is_done result ≡ true → MakesTick view.now self.old self.new outputs.old outputs.new }
-        ensures next { is_done result ≡ true → leaves_ready result ≡ is_ready self.new.setup self.new.registers }
+        ensures done { is_done result ≡ true
+            → MakesTick view.now self.old self.new outputs.old outputs.new }
+        ensures next { is_done result ≡ true
+            → leaves_ready result ≡ is_ready self.new.setup self.new.registers }
         ensures kept { is_done result ≡ false → (self.new ≡ self.old) × (outputs.new ≡ outputs.old) }
     {
         if !ready {
             if self.setup.autopull {
                 return Tried::NotSimple;
             }
+            // A delay counts.
             if self.registers.delay > 0 {
                 self.registers.delay -= 1;
-                return Tried::done(begins(&self.registers));
+                return Tried::done(begins_anew(&self.registers));
             }
+            // A WAIT that has begun may wait once more.
             if self.registers.begun {
                 let (place, word) = current_word(view, &self.registers);
                 self.decoded.read(place, word);
@@ -135,6 +149,7 @@ impl<F: Fifo> Machine<F> {
                 return Tried::NotSimple;
             }
         }
+        // An instruction from memory begins, and ends if it never waits.
         let pc = self.registers.pc;
         self.decoded.read(pc, view.word(pc));
         let reading = self.decoded.reading(pc);
@@ -161,7 +176,8 @@ impl<F: Fifo> Machine<F> {
     /// It costs the same however far this is.
     #[tactic(auto, using(crate::proofs::Stirs::is_idle, crate::proofs::Stirs::is_soon))]
     pub fn idle_until(&self, view: &View) -> Idle
-        ensures value { result ≡ idle_of self.now.setup view.now (queues_of self.now.ports.fifos) self.now.registers }
+        ensures value { result
+            ≡ idle_of self.now.setup view.now (queues_of self.now.ports.fifos) self.now.registers }
         ensures first { IsIdle self.now.setup view.now (queues_of self.now.ports.fifos) self.now.registers result }
         ensures below { IsSoon result }
     {
@@ -178,7 +194,8 @@ impl<F: Fifo> Machine<F> {
     /// flags are not raised again, and all else that they want is nothing.
     #[tactic(auto, using(crate::proofs::Stirs::passes))]
     pub fn leap(&mut self, view: &View, ticks: u64)
-        requires { (k : ℕ) → k < ticks → stirs_at self.old.setup view.now (queues_of self.old.ports.fifos) self.old.registers k ≡ false }
+        requires { (k : ℕ) → k < ticks
+            → stirs_at self.old.setup view.now (queues_of self.old.ports.fifos) self.old.registers k ≡ false }
         ensures ticks { self.new ≡ record self.old {
           registers =
               after_ticks self.old.setup view.now (queues_of self.old.ports.fifos) ticks self.old.registers;
@@ -191,28 +208,16 @@ impl<F: Fifo> Machine<F> {
         self.registers.delay = left as u8;
     }
 
-    /// How many words are in TX.
-    fn tx_level(&self) -> u8
-        ensures { result ≡ length self.now.ports.fifos.tx }
-    {
-        self.fifos.tx_level() as u8
-    }
-
-    /// How many words are in RX.
-    fn rx_level(&self) -> u8
-        ensures { result ≡ length self.now.ports.fifos.rx }
-    {
-        self.fifos.rx_level() as u8
-    }
-
     /// Ends a clock: the machine takes and gives what it wants, and the system writes the word, if any, and reads RX or
     /// doesn't. A level is what it was at the clock's start. True where any of them did anything at the FIFOs.
     #[inline(always)]
     #[tactic(auto, unfolding(crate::specs::State::settled_ports, fifo_pair::specs::Fifos::settled))]
     pub fn settle(&mut self, intent: &Intent, word: Option<u32>, read: bool) -> bool
         requires take { IsTrue intent.now.take → 0 < length self.old.ports.fifos.tx }
-        requires word { IsSome intent.now.word → length self.old.ports.fifos.rx < self.old.ports.fifos.rx_room }
-        ensures after { self.new ≡ record self.old { ports = settled_ports intent.now word read self.old.ports } }
+        requires word { IsSome intent.now.word
+            → length self.old.ports.fifos.rx < self.old.ports.fifos.rx_room }
+        ensures after { self.new
+            ≡ record self.old { ports = settled_ports intent.now word read self.old.ports } }
         ensures used { result ≡ uses_fifos intent.now word read }
     {
         if !intent.take && intent.word.is_none() && word.is_none() && !read {
@@ -245,19 +250,18 @@ impl<F: Fifo> Machine<F> {
         self.sticky = told(settled.over, settled.under) | (sticky | self.sticky);
     }
 
-    /// What can be seen of it.
-    pub fn shown(&self) -> Shown
-        ensures value { result ≡ shown_of self.now.ports }
-        ensures kept { IsKept self.now.setup self.now.registers self.now.ports.fifos }
+    /// How many words are in TX.
+    fn tx_level(&self) -> u8
+        ensures { result ≡ length self.now.ports.fifos.tx }
     {
-        Shown {
-            tx: self.tx_level(),
-            rx: self.rx_level(),
-            tx_full: self.fifos.tx_full(),
-            rx_empty: self.rx_level() == 0,
-            got: self.got,
-            sticky: self.sticky,
-        }
+        self.fifos.tx_level() as u8
+    }
+
+    /// How many words are in RX.
+    fn rx_level(&self) -> u8
+        ensures { result ≡ length self.now.ports.fifos.rx }
+    {
+        self.fifos.rx_level() as u8
     }
 }
 

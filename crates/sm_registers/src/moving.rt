@@ -90,7 +90,8 @@ fn mov_to(
     setup: &MachineSetup,
     registers: &mut Registers,
 ) -> End
-    ensures { effect_by registers.new no_intent result ≡ spec.mov_to destination value setup.now registers.old }
+    ensures { effect_by registers.new no_intent result
+        ≡ spec.mov_to destination value setup.now registers.old }
 {
     match destination {
         MovDestination::Pins => return End::Levels(writes_of(&setup.out, value)),
@@ -116,7 +117,8 @@ pub(crate) fn set_effect(
     setup: &MachineSetup,
     registers: &mut Registers,
 ) -> End
-    ensures { effect_by registers.new no_intent result ≡ spec.set_effect destination value setup.now registers.old }
+    ensures { effect_by registers.new no_intent result
+        ≡ spec.set_effect destination value setup.now registers.old }
 {
     let value = u32::from(value);
     match destination {

@@ -21,6 +21,6 @@ pub struct Registers {
     pub delay: u8,
     /// The word of an OUT EXEC or MOV EXEC, or that of the setup at the start, which is the next instruction.
     pub pending: Option<u16>,
-    /// Whether the current instruction stalled in a tick before.
+    /// Whether the current instruction has begun: it stalled in each tick before.
     pub begun: bool,
 }

@@ -72,7 +72,8 @@ fn autopush<F: Fifo>(
     intent: &mut Intent,
 ) -> End
     requires { intent.old ≡ no_intent }
-    ensures { effect_by registers.new intent.new result ≡ spec.autopushed setup.now (queues_of fifos.now) registers.old }
+    ensures { effect_by registers.new intent.new result
+        ≡ spec.autopushed setup.now (queues_of fifos.now) registers.old }
 {
     if setup.autopush && setup.push_threshold <= registers.in_count {
         if fifos.rx_full() {
@@ -143,7 +144,8 @@ pub(crate) fn put_bits_out(
 ) -> End
     requires count { count ≤ 32 }
     requires placed { registers.old.out_count ≤ 32 }
-    ensures { effect_by registers.new no_intent result ≡ spec.bits_out_to destination count setup.now registers.old }
+    ensures { effect_by registers.new no_intent result
+        ≡ spec.bits_out_to destination count setup.now registers.old }
 {
     let (value, osr) = shift_out(registers.osr, count, setup.out_right);
     registers.osr = osr;
@@ -160,7 +162,8 @@ fn out_to(
     setup: &MachineSetup,
     registers: &mut Registers,
 ) -> End
-    ensures { effect_by registers.new no_intent result ≡ spec.out_to destination value count setup.now registers.old }
+    ensures { effect_by registers.new no_intent result
+        ≡ spec.out_to destination value count setup.now registers.old }
 {
     match destination {
         OutDestination::Pins => return End::Levels(writes_of(&setup.out, value)),

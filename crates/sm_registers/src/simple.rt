@@ -59,7 +59,7 @@ impl Tried {
 
 /// Whether the next tick begins an instruction from memory.
 #[inline(always)]
-pub(crate) fn begins(registers: &Registers) -> bool
+pub(crate) fn begins_anew(registers: &Registers) -> bool
     ensures { result ≡ begins_anew registers.now }
 {
     registers.delay == 0 && !(registers.begun | registers.pending.is_some())

@@ -33,7 +33,8 @@ pub(crate) fn tick_of<F: Fifo>(
 ) -> Intent
     requires placed { IsPlaced registers.old }
     requires setup { decoded.old.setup ≡ setup.now }
-    ensures registers { registers.new ≡ (spec.tick_of setup.now view.now (queues_of fifos.now) registers.old).0 }
+    ensures registers { registers.new
+        ≡ (spec.tick_of setup.now view.now (queues_of fifos.now) registers.old).0 }
     ensures intent { result ≡ (spec.tick_of setup.now view.now (queues_of fifos.now) registers.old).1 }
     ensures same { decoded.new.setup ≡ decoded.old.setup }
 {
@@ -76,7 +77,8 @@ fn tick_word<F: Fifo>(
 ) -> Intent
     requires placed { IsPlaced registers.old }
     requires reading { (place : ℕ) × IsReading setup.now place reading.now }
-    requires next { registers.old.pending ≡ None → reading.now.next ≡ spec.next_after setup.now registers.old.pc }
+    requires next { registers.old.pending ≡ None
+        → reading.now.next ≡ spec.next_after setup.now registers.old.pc }
     ensures registers { registers.new
         ≡ (spec.tick_word reading.now.op setup.now view.now (queues_of fifos.now) registers.old).0 }
     ensures intent { result
@@ -95,7 +97,8 @@ fn tick_word<F: Fifo>(
 /// PC after an instruction that doesn't jump, by the address after its own: a pending word leaves it.
 #[inline(always)]
 fn next_pc(next: u8, registers: &Registers) -> u8
-    ensures { (s : spec_setup.MachineSetup) → (registers.now.pending ≡ None → next ≡ spec.next_after s registers.now.pc)
+    ensures { (s : spec_setup.MachineSetup)
+        → (registers.now.pending ≡ None → next ≡ spec.next_after s registers.now.pc)
         → result ≡ spec.pc_after None (is_some registers.now.pending) s registers.now }
 {
     if registers.pending.is_some() {
@@ -138,7 +141,8 @@ pub(crate) fn conclude(end: End, next: u8, delay: u8, registers: &mut Registers)
 /// Ends an instruction that is finished.
 #[inline(always)]
 fn finish(pc: u8, pending: Option<u16>, delay: u8, registers: &mut Registers)
-    ensures { registers.new ≡ record registers.old { pc = pc; pending = pending; delay = delay; begun = false } }
+    ensures { registers.new
+        ≡ record registers.old { pc = pc; pending = pending; delay = delay; begun = false } }
 {
     registers.pc = pc;
     registers.pending = pending;

@@ -28,7 +28,8 @@ pub(crate) fn wait_effect(
 ) -> End
     requires index { index < 32 }
     requires fresh { intent.old ≡ no_intent }
-    ensures { effect_by registers.now intent.new result ≡ spec.wait_effect polarity source index setup.now view.now registers.now }
+    ensures { effect_by registers.now intent.new result
+        ≡ spec.wait_effect polarity source index setup.now view.now registers.now }
 {
     if waited_bit(source, index, setup, view) == polarity {
         intent.clears = waited_flag(polarity, source, index, setup);
@@ -76,7 +77,8 @@ pub(crate) fn irq_effect(
 ) -> End
     requires index { index < 32 }
     requires fresh { intent.old ≡ no_intent }
-    ensures { effect_by registers.now intent.new result ≡ spec.irq_effect clear waits index setup.now view.now registers.now }
+    ensures { effect_by registers.now intent.new result
+        ≡ spec.irq_effect clear waits index setup.now view.now registers.now }
 {
     let flag = flag_bit(index, setup);
     if clear {
