@@ -1,5 +1,5 @@
 -- What the machines did in a clock, by how they stood before it and stand after it.
-use Rattle.std.proofs.Common.{◌≡◌, ℕ, zero, suc, ◌+◌, ◌-◌, ◌*◌, ◌/◌, ◌<◌, ◌≤◌, ◌==◌, Bool, true, false, not, ◌&&◌, ◌||◌, Option, Some, None, option_map, List, [], ◌∷◌, map, cond, nat_lt, slice_index_or, refl, sym, ap, ◌∙◌, arith}
+use Rattle.std.proofs.Common.{◌≡◌, ℕ, zero, suc, ◌+◌, ◌-◌, ◌*◌, ◌/◌, ◌<◌, ◌≤◌, ◌==◌, Bool, true, false, not, ◌&&◌, ◌||◌, Option, Some, None, option_map, List, [], ◌∷◌, map, cond, nat_lt, slice_index_or, refl, sym, ap, ◌∙◌, arith, subst}
 use Rattle.std.proofs.lemmas.Bool.{or_parts}
 use Rattle.std.proofs.lemmas.Bool.Decides.{nat_tests}
 use Rattle.std.proofs.lemmas.Nat.{div_below}
@@ -15,10 +15,10 @@ use Rattle.sm_registers.specs.Tick.{current_word, tick_by, tick_delay, tick_of, 
 use Rattle.sm_registers.specs.View.{View}
 use Rattle.dreq_pacing.specs.declared.due.Due.{Due}
 use Rattle.dreq_pacing.specs.Due.{quiet}
-use Rattle.block_core.specs.Block.{BlockState, Run, next, pads_in, run_from, seen_in, stepped, view_of}
+use Rattle.block_core.specs.Block.{BlockState, Run, Worked, next, pads_in, run_from, seen_in, stepped, view_of}
 use Rattle.block_core.specs.declared.conduct.Conduct.{Conduct}
 use Rattle.block_core.specs.declared.conduct.Standing.{Standing}
-use Rattle.block_core.specs.Conduct.{after_in, are_places_noted, concluded, concluded_places, conduct_after, conduct_by, conduct_in, has_new_pins, is_lined_by, is_machine_noted, is_noted, is_noted_by, is_standing_noted, machine_conduct, standing_in, standings_in}
+use Rattle.block_core.specs.Conduct.{Told, after_in, are_places_noted, concluded, concluded_places, conduct_after, conduct_by, conduct_in, has_new_pins, is_lined_by, is_machine_noted, is_noted, is_noted_by, is_standing_noted, machine_conduct, standing_in, standings_in}
 use Rattle.block_core.specs.Inside.{is_of_an_instruction, machine_inside}
 use Rattle.block_core.specs.Leaps.{leapt}
 use Rattle.block_core.specs.Slots.{Slot, acted, has_tick, lined, place_after, place_intent, slot_after, slot_intent}
@@ -221,8 +221,11 @@ none_noted r clocks calm rests k below =
     (ap (λ (x : Run). x.state.directions) then ∙ leapt_directions (suc k) r ∙ sym (ap (λ (x : Run). x.state.directions) now ∙ leapt_directions k r))
 
 -- what a block keeps of a clock that it worked out
-pub after-note : (d : Due) (r : Run) (last now : Conduct) (clock level direction : ℕ) (before : List (Option Standing)) (after : BlockState) (noted : Bool) → clock ≡ r.clock → level ≡ r.state.levels → direction ≡ r.state.directions → before ≡ standings_in d r.state → after ≡ (next d r).state → noted ≡ is_noted_by clock level direction before after → now ≡ cond noted (conduct_by clock before after) last → (noted ≡ is_noted d r) × (now ≡ conduct_after d r last)
-after-note d r last now clock level direction before after noted at levels directions stood is_after is_noted_now is_now =
-    let notes : is_noted_by clock level direction before after ≡ is_noted d r = rw (at, levels, directions, stood, is_after) (noted_next d r) in
+pub after-note : (d : Due) (w : Worked) (last now : Conduct) (t : Told) (clock : ℕ) (pins : ℕ × ℕ) (before : List (Option Standing)) (after : BlockState) (noted : Bool) → record { worked = w; last = last } ≡ t → t.worked.run.clock ≡ clock → pins ≡ (w.run.state.levels, w.run.state.directions) → before ≡ standings_in d w.run.state → after ≡ (next d w.run).state → noted ≡ is_noted_by clock pins.0 pins.1 before after → now ≡ cond noted (conduct_by clock before after) last → (noted ≡ is_noted d t.worked.run) × (now ≡ conduct_after d t.worked.run t.last)
+after-note d w last now t clock pins before after noted is at is_pins stood is_after is_noted_now is_now =
+    let r = w.run in
+    let at : clock ≡ r.clock = sym (ap (λ (t : Told). t.worked.run.clock) is ∙ at) in
+    let notes : is_noted_by clock pins.0 pins.1 before after ≡ is_noted d r = rw (at, is_pins, stood, is_after) (noted_next d r) in
     let told : conduct_by clock before after ≡ conduct_in d r = rw (at, stood, is_after) (conduct_next d r) in
+    subst (λ (t : Told). (noted ≡ is_noted d t.worked.run) × (now ≡ conduct_after d t.worked.run t.last)) is
     (is_noted_now ∙ notes, is_now ∙ rw (is_noted_now ∙ notes, told) refl)

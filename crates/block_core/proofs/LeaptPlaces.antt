@@ -1,38 +1,32 @@
 -- When the machines of four places next stir over given pads, and what they are until then.
-use Rattle.std.proofs.Common.{◌≡◌, ℕ, ◌+◌, ◌==◌, Bool, true, false, not, ◌&&◌, ◌||◌, ◌↔◌, IsTrue, Option, Some, None, List, refl, ap, sym, subst, arith}
+use Rattle.std.proofs.Common.{◌≡◌, ℕ, ◌+◌, ◌==◌, Bool, true, false, not, ◌&&◌, ◌||◌, ◌↔◌, IsTrue, Option, Some, None, List, refl, ap, ◌∙◌, sym, subst, arith}
 use Rattle.std.proofs.lemmas.Bool.Decides.{nat_tests}
 use Rattle.std.proofs.lemmas.Bool.{or_parts}
 use Rattle.pin_matrix.specs.Pads.{Synchroniser, seen_of}
 use Rattle.sm_registers.specs.View.{View}
 use Rattle.dreq_pacing.specs.Due.{quiet}
 use Rattle.dreq_pacing.specs.Ports.{IsFirst}
+use Rattle.block_core.specs.Block.{Run}
 use Rattle.block_core.specs.Kept.{IsInStep}
 use Rattle.block_core.specs.Leaps.{leapt_place, leapt, stirs_after}
 use Rattle.block_core.specs.Slots.{Slot}
 use Rattle.block_core.specs.Stirring.{machines_stir_over}
 use Rattle.block_core.proofs.Firsts.{first_same}
 use Rattle.block_core.proofs.LeaptRun.{pads_same}
-use Rattle.block_core.proofs.MergedWants.{view, run}
-
-join : (t a b c e : Bool) → (t || (a || (b || (c || (e || false))))) ≡ ((((t || a) || b) || c) || e)
-join false false false false false = refl
-join false false false false true = refl
-join false false false true e = refl
-join false false true c e = refl
-join false true b c e = refl
-join true a b c e = refl
+use Rattle.block_core.proofs.MergedWants.{join, view, run}
 
 -- some clocks on, one of the four stirs
-any_stirs : (memory : List ℕ) (clock levels directions flags outside : ℕ) (sync : Synchroniser) (a b c e : Option Slot) (pad seen : ℕ) → seen ≡ seen_of sync.bypass pad sync.pad_2 → (t : Bool) (n : ℕ) → let v = view memory seen flags in (t || machines_stir_over pad quiet (leapt n (run memory clock levels directions flags outside sync a b c e))) ≡ ((((t || stirs_after v a n) || stirs_after v b n) || stirs_after v c n) || stirs_after v e n)
+any_stirs : (memory : List ℕ) (clock levels directions flags outside : ℕ) (sync : Synchroniser) (a b c e : Option Slot) (pad : ℕ) (v : View) → v ≡ view memory (seen_of sync.bypass pad sync.pad_2) flags → (t : Bool) (n : ℕ) → (t || machines_stir_over pad quiet (leapt n (run memory clock levels directions flags outside sync a b c e))) ≡ ((((t || stirs_after v a n) || stirs_after v b n) || stirs_after v c n) || stirs_after v e n)
 unfolding leapt
-any_stirs memory clock levels directions flags outside sync a b c e pad seen sees t n =
-    subst (λ x. let v = view memory x flags in (t || machines_stir_over pad quiet (leapt n (run memory clock levels directions flags outside sync a b c e))) ≡ ((((t || stirs_after v a n) || stirs_after v b n) || stirs_after v c n) || stirs_after v e n)) (sym sees)
+any_stirs memory clock levels directions flags outside sync a b c e pad v sees t n =
+    subst (λ (w : View). (t || machines_stir_over pad quiet (leapt n (run memory clock levels directions flags outside sync a b c e))) ≡ ((((t || stirs_after w a n) || stirs_after w b n) || stirs_after w c n) || stirs_after w e n)) (sym sees)
     (let v = view memory (seen_of sync.bypass pad sync.pad_2) flags in join t (stirs_after v a n) (stirs_after v b n) (stirs_after v c n) (stirs_after v e n))
 
-pub first_stirs : (memory : List ℕ) (clock levels directions flags outside : ℕ) (sync : Synchroniser) (a b c e : Option Slot) (pad seen : ℕ) (test : ℕ → Bool) (result : Option ℕ) → seen ≡ seen_of sync.bypass pad sync.pad_2 → (let v = view memory seen flags in IsFirst (λ n. (((test n || stirs_after v a n) || stirs_after v b n) || stirs_after v c n) || stirs_after v e n) 0 result) → IsFirst (λ n. test n || machines_stir_over pad quiet (leapt n (run memory clock levels directions flags outside sync a b c e))) 0 result
-first_stirs memory clock levels directions flags outside sync a b c e pad seen test result sees h =
-    first_same _ (λ n. test n || machines_stir_over pad quiet (leapt n (run memory clock levels directions flags outside sync a b c e))) result
-    (λ n. any_stirs memory clock levels directions flags outside sync a b c e pad seen sees (test n) n) h
+pub first_stirs : (memory : List ℕ) (clock levels directions flags outside : ℕ) (sync : Synchroniser) (a b c e : Option Slot) (pad : ℕ) (test : ℕ → Bool) (result : Option ℕ) (r : Run) (v : View) → run memory clock levels directions flags outside sync a b c e ≡ r → v ≡ view memory (seen_of sync.bypass pad sync.pad_2) flags → IsFirst (λ n. (((test n || stirs_after v a n) || stirs_after v b n) || stirs_after v c n) || stirs_after v e n) 0 result → IsFirst (λ n. test n || machines_stir_over pad quiet (leapt n r)) 0 result
+first_stirs memory clock levels directions flags outside sync a b c e pad test result r v is sees h =
+    subst (λ (r : Run). IsFirst (λ n. test n || machines_stir_over pad quiet (leapt n r)) 0 result) is
+    (first_same _ (λ n. test n || machines_stir_over pad quiet (leapt n (run memory clock levels directions flags outside sync a b c e))) result
+    (λ n. any_stirs memory clock levels directions flags outside sync a b c e pad v sees (test n) n) h)
 
 -- some clocks on, none of the four stirs
 pub record AreCalm (v : View) (a b c e : Option Slot) (n : ℕ) : Type 0 where
@@ -48,10 +42,11 @@ parted v a b c e n h =
     let three = or_parts (stirs_after v c n) _ two.1 in
     record { first = one.0; second = two.0; third = three.0; fourth = (or_parts (stirs_after v e n) false three.1).0 }
 
-pub are_calm : (memory : List ℕ) (clock levels directions flags outside : ℕ) (sync : Synchroniser) (a b c e : Option Slot) (pad seen n : ℕ) → seen ≡ seen_of sync.bypass pad sync.pad_2 → machines_stir_over pad quiet (leapt n (run memory clock levels directions flags outside sync a b c e)) ≡ false → AreCalm (view memory seen flags) a b c e n
+pub are_calm : (memory : List ℕ) (clock levels directions flags outside : ℕ) (sync : Synchroniser) (a b c e : Option Slot) (pad n : ℕ) (r : Run) (v : View) → run memory clock levels directions flags outside sync a b c e ≡ r → v ≡ view memory (seen_of sync.bypass pad sync.pad_2) flags → machines_stir_over pad quiet (leapt n r) ≡ false → AreCalm v a b c e n
 unfolding leapt
-are_calm memory clock levels directions flags outside sync a b c e pad seen n sees h =
-    subst (λ x. AreCalm (view memory x flags) a b c e n) (sym sees) (parted (view memory (seen_of sync.bypass pad sync.pad_2) flags) a b c e n h)
+are_calm memory clock levels directions flags outside sync a b c e pad n r v is sees h =
+    subst (λ (w : View). AreCalm w a b c e n) (sym sees)
+    (parted (view memory (seen_of sync.bypass pad sync.pad_2) flags) a b c e n (ap (λ (r : Run). machines_stir_over pad quiet (leapt n r)) is ∙ h))
 
 -- the four after clocks in which they rest
 pub leapt_run : (memory : List ℕ) (clock levels directions flags outside : ℕ) (sync : Synchroniser) (a b c e a2 b2 c2 e2 : Option Slot) (n : ℕ) → a2 ≡ leapt_place n a → b2 ≡ leapt_place n b → c2 ≡ leapt_place n c → e2 ≡ leapt_place n e → run memory (clock + n) levels directions flags outside sync a2 b2 c2 e2 ≡ leapt n (run memory clock levels directions flags outside sync a b c e)

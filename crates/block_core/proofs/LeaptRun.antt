@@ -132,17 +132,11 @@ directions_stay old [] h = refl
 directions_stay old (i ∷ intents) h =
     ap (λ (j : Intent). merged old (two_writes j.direction ++ direction_writes intents)) h.0 ∙ directions_stay old intents h.1
 
-none_lowered : (flags : ℕ) (intents : List Intent) → AllByRecursion (λ i. i ≡ only_waits i) intents → with_all flags (map (λ (i : Intent). i.clears) intents) ≡ flags
-none_lowered flags [] h = refl
-none_lowered flags (i ∷ intents) h =
-    ap (λ (j : Intent). with_all (bit_or flags j.clears) (map (λ (i : Intent). i.clears) intents)) h.0
-    ∙ ap (λ f. with_all f (map (λ (i : Intent). i.clears) intents)) (or_zero_r flags) ∙ none_lowered flags intents h.1
-
-none_raised : (flags : ℕ) (intents : List Intent) → AllByRecursion (λ i. i ≡ only_waits i) intents → with_all flags (map (λ (i : Intent). i.sets) intents) ≡ flags
-none_raised flags [] h = refl
-none_raised flags (i ∷ intents) h =
-    ap (λ (j : Intent). with_all (bit_or flags j.sets) (map (λ (i : Intent). i.sets) intents)) h.0
-    ∙ ap (λ f. with_all f (map (λ (i : Intent). i.sets) intents)) (or_zero_r flags) ∙ none_raised flags intents h.1
+none_merged : (of : Intent → ℕ) → ((i : Intent) → of (only_waits i) ≡ 0) → (flags : ℕ) (intents : List Intent) → AllByRecursion (λ i. i ≡ only_waits i) intents → with_all flags (map of intents) ≡ flags
+none_merged of none flags [] h = refl
+none_merged of none flags (i ∷ intents) h =
+    ap (λ x. with_all (bit_or flags x) (map of intents)) (ap of h.0 ∙ none i)
+    ∙ ap (λ f. with_all f (map of intents)) (or_zero_r flags) ∙ none_merged of none flags intents h.1
 
 -- a state in which no machine stirs
 state_leaps : CalmLaws → (memory : List ℕ) (seen : ℕ) (b : BlockState) → AreTold memory b.machines → list_any stirs (map (place_intent (view_of memory seen b) quiet) b.machines) ≡ false → stepped memory seen quiet b ≡ record b { machines = map (leapt_place 1) b.machines }
@@ -154,8 +148,8 @@ state_leaps laws memory seen b told h =
       places_leap laws v b.machines told h,
       levels_stay b.levels _ waits,
       directions_stay b.directions _ waits,
-      none_lowered 0 _ waits,
-      none_raised 0 _ waits,
+      none_merged (λ i. i.clears) (λ i. refl) 0 _ waits,
+      none_merged (λ i. i.sets) (λ i. refl) 0 _ waits,
       or_zero_l b.flags,
     ) refl
 

@@ -1,5 +1,5 @@
 -- What four machines want of their block, merged one after the other, and the clock that comes of it.
-use Rattle.std.proofs.Common.{◌≡◌, ℕ, ◌+◌, Bool, true, false, ◌||◌, Option, List, [], ◌∷◌, map, refl}
+use Rattle.std.proofs.Common.{◌≡◌, ℕ, ◌+◌, Bool, true, false, ◌||◌, Option, List, [], ◌∷◌, map, refl, sym}
 use Rattle.std.specs.Int.Bits.{or_zero_r}
 use Rattle.irq_flags.specs.Flags.{merged_flags}
 use Rattle.pin_matrix.specs.Pins.{merged}
@@ -77,15 +77,16 @@ pub unused : (used : Bool) {now : Bool} → false ≡ now → used ≡ (used || 
 unused true e = refl
 unused false e = e
 
--- one place after the other, or all at once
-in_turn : (a b c d : Bool) → (((a || b) || c) || d) ≡ (a || (b || (c || (d || false))))
-in_turn true b c d = refl
-in_turn false true c d = refl
-in_turn false false true d = refl
-in_turn false false false true = refl
-in_turn false false false false = refl
+-- four places one after the other, after what was before them, or all at once
+pub join : (t a b c e : Bool) → (t || (a || (b || (c || (e || false))))) ≡ ((((t || a) || b) || c) || e)
+join false false false false false = refl
+join false false false false true = refl
+join false false false true e = refl
+join false false true c e = refl
+join false true b c e = refl
+join true a b c e = refl
 
 -- whether anything was done at any FIFO
 pub any_used : (d : Due) (memory : List ℕ) (clock levels directions flags outside : ℕ) (sync : Synchroniser) (a b c e : Option Slot) (outside2 pad seen : ℕ) (w0 w1 w2 w3 w4 : Wanted) → IsStep d memory levels directions flags outside sync a b c e outside2 pad seen w0 w1 w2 w3 w4 → (u1 u2 u3 u4 : Bool) → u1 ≡ place_uses_fifos (view memory seen flags) d a → u2 ≡ (u1 || place_uses_fifos (view memory seen flags) d b) → u3 ≡ (u2 || place_uses_fifos (view memory seen flags) d c) → u4 ≡ (u3 || place_uses_fifos (view memory seen flags) d e) → u4 ≡ uses_fifos_over pad d (run memory clock levels directions flags outside sync a b c e)
 any_used d memory clock levels directions flags outside sync a b c e outside2 pad seen w0 w1 w2 w3 w4 s u1 u2 u3 u4 f1 f2 f3 f4 =
-    rw (f4, f3, f2, f1, s.sees) (in_turn (place_uses_fifos _ d a) (place_uses_fifos _ d b) (place_uses_fifos _ d c) (place_uses_fifos _ d e))
+    rw (f4, f3, f2, f1, s.sees) (sym (join false (place_uses_fifos _ d a) (place_uses_fifos _ d b) (place_uses_fifos _ d c) (place_uses_fifos _ d e)))

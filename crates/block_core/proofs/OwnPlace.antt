@@ -183,18 +183,14 @@ leave-first s signal id p h (suc (suc zero)) apart = some_first (λ t. leaves p 
 leave-first s signal id p h (suc (suc (suc zero))) apart = some_first (λ t. leaves p signal t ≡ true) (slice_index_or s.machines 3 None) (h 3 apart)
 leave-first s signal id p h (suc (suc (suc (suc other)))) apart = tt
 
--- as a premise: of a pin's writes the last gives its bit
-abbrev pub LastCounts : Type 0
-LastCounts = (p old : ℕ) (ws : List (ℕ × ℕ)) → p < 32 → AllByRecursion IsWrite ws → bit_at (merged old ws) p ≡ last_of p (bit_at old p) ws
-
-pub own_level : TicksWritePins → TicksWriteOwnPins Level → IsWrite (0, 0) → LastCounts → FreeStays → (s : Setup) (memory : List ℕ) (seen : ℕ) (d : Due) (b : BlockState) (id p : ℕ) → p < 32 → OthersLeave Level id p s.machines → map (option_map (λ (m : Slot). m.machine.setup)) b.machines ≡ map (option_map (λ (m : Slot). m.machine.setup)) (first_state s).machines → bit_at (stepped memory seen d b).levels p ≡ last_of p (bit_at b.levels p) (two_writes (intent_in memory seen d b id).level)
+pub own_level : TicksWritePins → TicksWriteOwnPins Level → IsWrite (0, 0) → LastWriteCounts → FreeStays → (s : Setup) (memory : List ℕ) (seen : ℕ) (d : Due) (b : BlockState) (id p : ℕ) → p < 32 → OthersLeave Level id p s.machines → map (option_map (λ (m : Slot). m.machine.setup)) b.machines ≡ map (option_map (λ (m : Slot). m.machine.setup)) (first_state s).machines → bit_at (stepped memory seen d b).levels p ≡ last_of p (bit_at b.levels p) (two_writes (intent_in memory seen d b id).level)
 unfolding stepped
 own_level writes law none last stays s memory seen d b id p inside others same =
     let v = view_of memory seen b in
     last p b.levels (level_writes (intents_of v d b.machines)) inside (all_writes writes none v d b.machines)
     ∙ last-own Level law stays v d p inside b.machines id (bit_at b.levels p) (subst (OthersLeave Level id p) (sym same) (leave-first s Level id p others))
 
-pub own_direction : TicksWritePins → TicksWriteOwnPins Direction → IsWrite (0, 0) → LastCounts → FreeStays → (s : Setup) (memory : List ℕ) (seen : ℕ) (d : Due) (b : BlockState) (id p : ℕ) → p < 32 → OthersLeave Direction id p s.machines → map (option_map (λ (m : Slot). m.machine.setup)) b.machines ≡ map (option_map (λ (m : Slot). m.machine.setup)) (first_state s).machines → bit_at (stepped memory seen d b).directions p ≡ last_of p (bit_at b.directions p) (two_writes (intent_in memory seen d b id).direction)
+pub own_direction : TicksWritePins → TicksWriteOwnPins Direction → IsWrite (0, 0) → LastWriteCounts → FreeStays → (s : Setup) (memory : List ℕ) (seen : ℕ) (d : Due) (b : BlockState) (id p : ℕ) → p < 32 → OthersLeave Direction id p s.machines → map (option_map (λ (m : Slot). m.machine.setup)) b.machines ≡ map (option_map (λ (m : Slot). m.machine.setup)) (first_state s).machines → bit_at (stepped memory seen d b).directions p ≡ last_of p (bit_at b.directions p) (two_writes (intent_in memory seen d b id).direction)
 unfolding stepped
 own_direction writes law none last stays s memory seen d b id p inside others same =
     let v = view_of memory seen b in

@@ -1,6 +1,6 @@
-use Rattle.std.proofs.Common.{◌≡◌, ℕ, ◌+◌, sym, ap, ◌∙◌, subst}
+use Rattle.std.proofs.Common.{ℕ, ◌+◌, ap, ◌∙◌}
 use Rattle.block_core.specs.Block.{Run}
-use Rattle.block_core.specs.Conduct.{Told, conduct_after}
+use Rattle.block_core.specs.Conduct.{Told}
 use Rattle.block_core.proofs.ClocksOfNote.{after-note, clock_next}
 use Rattle.block_core.proofs.conduct.Conducted.clock.Goals as goal
 
@@ -12,14 +12,5 @@ told-noted-requires-clause-clock g c =
 
 pub returns-clause-last : goal.returns-clause-last
 returns-clause-last g c =
-    let b = c.self.inside.block in
-    let d = c.args.due.now in
-    let told = c.told-noted in
-    subst (λ (t : Told). told.result.1 ≡ conduct_after d t.worked.run t.last) c.self.view_is
-    ((after-note d b.run c.self.inside.last told.result.1 c.args.clock c.pins-level.result.0 c.pins-level.result.1 c.standings-before.result c.clock.new.self.run.state told.result.0
-    (sym (ap (λ (t : Told). t.worked.run.clock) c.self.view_is ∙ c.requires.clock))
-    (ap (λ p. p.0) c.pins-level.ensures)
-    (ap (λ p. p.1) c.pins-level.ensures)
-    c.standings-before.ensures
-    (ap (λ (r : Run). r.state) c.clock.ensures.run)
-    told.ensures.noted told.ensures.last).1)
+    (after-note c.args.due.now _ _ _ _ _ _ _ _ _ c.self.view_is c.requires.clock c.pins-level.ensures c.standings-before.ensures
+    (ap (λ (r : Run). r.state) c.clock.ensures.run) c.told-noted.ensures.noted c.told-noted.ensures.last).1

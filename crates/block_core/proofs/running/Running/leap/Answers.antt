@@ -1,10 +1,5 @@
-use Rattle.std.proofs.Common.{◌≡◌, false, [], ◌∷◌, refl, subst, sym, ap, ◌∙◌}
-use Rattle.pin_matrix.specs.Pads.{seen_of}
-use Rattle.sm_registers.specs.View.{View}
-use Rattle.dreq_pacing.specs.Due.{quiet}
-use Rattle.block_core.specs.Block.{Run}
-use Rattle.block_core.specs.Leaps.{leapt, stirs_after}
-use Rattle.block_core.specs.Stirring.{machines_stir_over}
+use Rattle.std.proofs.Common.{[], ◌∷◌, ap, ◌∙◌}
+use Rattle.block_core.specs.Leaps.{leapt}
 use Rattle.block_core.proofs.LeaptPlaces.{are_calm, in_step_leapt, leapt_run}
 use Rattle.block_core.proofs.Showing.{sample_leapt}
 use Rattle.block_core.proofs.SimpleSteps.{empty_leapt}
@@ -13,31 +8,19 @@ use Rattle.block_core.proofs.running.Running.leap.Goals as goal
 
 pub leap-requires-clause-calm : goal.leap-requires-clause-calm
 leap-requires-clause-calm g c = λ k lt.
-    let b = c.self.inside in
-    let calm = subst (λ (r : Run). machines_stir_over c.args.pad quiet (leapt k r) ≡ false) (sym c.self.view_is) (c.requires.calm k lt) in
-    subst (λ (v : View). stirs_after v b.first k ≡ false) (sym c.new-view.ensures)
-    (are_calm b.shared.memory b.clock b.wanted.outputs.levels b.wanted.outputs.directions b.shared.flags.up b.outside b.shared.sync b.first b.second b.third b.fourth c.args.pad (seen_of b.shared.sync.bypass c.args.pad b.shared.sync.pad_2) k refl calm).first
+    (are_calm _ _ _ _ _ _ _ _ _ _ _ c.args.pad k _ _ c.self.view_is c.new-view.ensures (c.requires.calm k lt)).first
 
 pub leap-requires-2-clause-calm : goal.leap-requires-2-clause-calm
 leap-requires-2-clause-calm g c = λ k lt.
-    let b = c.self.inside in
-    let calm = subst (λ (r : Run). machines_stir_over c.args.pad quiet (leapt k r) ≡ false) (sym c.self.view_is) (c.requires.calm k lt) in
-    subst (λ (v : View). stirs_after v b.second k ≡ false) (sym c.new-view.ensures)
-    (are_calm b.shared.memory b.clock b.wanted.outputs.levels b.wanted.outputs.directions b.shared.flags.up b.outside b.shared.sync b.first b.second b.third b.fourth c.args.pad (seen_of b.shared.sync.bypass c.args.pad b.shared.sync.pad_2) k refl calm).second
+    (are_calm _ _ _ _ _ _ _ _ _ _ _ c.args.pad k _ _ c.self.view_is c.new-view.ensures (c.requires.calm k lt)).second
 
 pub leap-requires-3-clause-calm : goal.leap-requires-3-clause-calm
 leap-requires-3-clause-calm g c = λ k lt.
-    let b = c.self.inside in
-    let calm = subst (λ (r : Run). machines_stir_over c.args.pad quiet (leapt k r) ≡ false) (sym c.self.view_is) (c.requires.calm k lt) in
-    subst (λ (v : View). stirs_after v b.third k ≡ false) (sym c.new-view.ensures)
-    (are_calm b.shared.memory b.clock b.wanted.outputs.levels b.wanted.outputs.directions b.shared.flags.up b.outside b.shared.sync b.first b.second b.third b.fourth c.args.pad (seen_of b.shared.sync.bypass c.args.pad b.shared.sync.pad_2) k refl calm).third
+    (are_calm _ _ _ _ _ _ _ _ _ _ _ c.args.pad k _ _ c.self.view_is c.new-view.ensures (c.requires.calm k lt)).third
 
 pub leap-requires-4-clause-calm : goal.leap-requires-4-clause-calm
 leap-requires-4-clause-calm g c = λ k lt.
-    let b = c.self.inside in
-    let calm = subst (λ (r : Run). machines_stir_over c.args.pad quiet (leapt k r) ≡ false) (sym c.self.view_is) (c.requires.calm k lt) in
-    subst (λ (v : View). stirs_after v b.fourth k ≡ false) (sym c.new-view.ensures)
-    (are_calm b.shared.memory b.clock b.wanted.outputs.levels b.wanted.outputs.directions b.shared.flags.up b.outside b.shared.sync b.first b.second b.third b.fourth c.args.pad (seen_of b.shared.sync.bypass c.args.pad b.shared.sync.pad_2) k refl calm).fourth
+    (are_calm _ _ _ _ _ _ _ _ _ _ _ c.args.pad k _ _ c.self.view_is c.new-view.ensures (c.requires.calm k lt)).fourth
 
 pub returns : goal.returns
 returns g c =
