@@ -10,10 +10,6 @@ use borrow.Author.Tests.{ne_eqb}
 use Rattle.std.proofs.Math.Pow.{shr_lt}
 use Rattle.std.proofs.lemmas.Grind.{drop-set_at}
 
--- the place before what is written, with a byte put there
-pub put_before : (line : List ℕ) (start byte : ℕ) → 1 ≤ start → start ≤ length line → drop (start - 1) (slice_set line (start - 1) byte) ≡ byte ∷ drop start line
-put_before line start byte low high = drop-set_at line (start - 1) (start - 1) byte (omega arith) (omega arith) ∙ ap (λ n. byte ∷ drop n line) (let e : start - 1 + 1 ≡ start = omega arith in e)
-
 -- the last k binary digits of a number at most, before what follows them
 unfoldable pub binary_onto : ℕ → ℕ → List ℕ → List ℕ
 binary_onto k n acc = digits_onto k 2 false n acc

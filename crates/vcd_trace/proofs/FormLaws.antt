@@ -109,11 +109,12 @@ taken_more b taken taken' text more whole h k e = k ∙ ap (λ x. with_bytes x m
 pub broken_more : (b taken taken' : Option (List ℕ)) (text more whole : List ℕ) → taken ≡ with_bytes b text → TakesPrefix taken more taken' → whole ≡ text ++ more → TakesPrefix b whole taken'
 broken_more b taken taken' text more whole h k e = let P : List ℕ → Type 0 = λ w. TakesPrefix b w taken' in subst P (sym e) (takes_prefix-append_r b taken taken' text more h k)
 
-pub one_put : {T : Type 0} (f : TextForm T) → AddsNothing f → (b : Option (List ℕ)) (l : List T) (taken : Option (List ℕ)) (last : Option T) (clock : ℕ) (t : T) (taken' : Option (List ℕ)) → HasPut f b l false taken last → IsNext l clock → taken' ≡ with_bytes taken (added f clock last t) → HasPut f b (told_at clock t l) false taken' (Some t)
-one_put f none b l taken last clock t taken' h n k = record {
+pub one_put : {T : Type 0} (f : TextForm T) → AddsNothing f → (b : Option (List ℕ)) (l : List T) (taken : Option (List ℕ)) (last : Option T) (clock : ℕ) (t : T) (taken' : Option (List ℕ)) (last' : Option T)
+    → HasPut f b l false taken last → IsNext l clock → taken' ≡ with_bytes taken (added f clock last t) → last' ≡ Some t → HasPut f b (told_at clock t l) false taken' last'
+one_put f none b l taken last clock t taken' last' h n k kept = record {
   text = taken_more b taken taken' (opened_text f l) (added f clock (last_told l) t) (opened_text f (told_at clock t l)) h.text
       (k ∙ ap (λ x. with_bytes taken (added f clock x t)) h.remembered) (opened_text-told f none clock t l n);
-  remembered = sym (last_told-push (held_to clock l) t);
+  remembered = kept ∙ sym (last_told-push (held_to clock l) t);
 }
 
 pub one_breaks : {T : Type 0} (f : TextForm T) → AddsNothing f → (b : Option (List ℕ)) (l : List T) (taken : Option (List ℕ)) (last : Option T) (clock : ℕ) (t : T) (taken' : Option (List ℕ)) → HasPut f b l false taken last → IsNext l clock → TakesPrefix taken (added f clock last t) taken' → TakesPrefix b (opened_text f (told_at clock t l)) taken'

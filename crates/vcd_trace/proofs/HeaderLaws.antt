@@ -1,12 +1,11 @@
 -- Laws of the declarations.
 use Rattle.std.proofs.Common.{◌≡◌, ℕ, ◌+◌, ◌-◌, ◌≤◌, ◌<◌, List, [], ◌∷◌, ◌++◌, zero, suc, length, drop, get_or, refl, sym, ap, ◌∙◌, append_assoc, length-append, arith}
 use Rattle.std.specs.Prelude.{codes}
-use Rattle.std.proofs.Math.Seq.{drop-cons}
 use Rattle.std.proofs.Math.ListN.{drop_of_length-le}
 use Rattle.vcd_trace.specs.declared.header.TheConstants.{GROUPS}
-use Rattle.vcd_trace.specs.declared.header.Group.{Group}
 use Rattle.vcd_trace.specs.VcdText.{Variable, variable, numbered, variables, declaration, declarations, scope_text, header_text}
 use Rattle.vcd_trace.specs.TwinText.{twin_header_text}
+use Rattle.vcd_trace.proofs.TextLaws.{drop_at}
 
 pub length-numbered : (letter width from count : ℕ) → length (numbered letter width from count) ≡ count
 length-numbered letter width from zero = refl
@@ -25,10 +24,18 @@ numbered-turn first letter width count number h =
     ap (λ k. declarations (first + number) (numbered letter width number k)) (let e : count - number ≡ suc (count - (number + 1)) = omega arith in e)
     ∙ ap (λ i. declaration (first + number) (variable letter width number) ++ declarations i (numbered letter width (number + 1) (count - (number + 1)))) (let e : first + number + 1 ≡ first + (number + 1) = omega arith in e)
 
+-- a group: the letter, the width, and how many
+abbrev Group : Type 0
+Group = ℕ × ℕ × ℕ
+
+-- its variables
+abbrev group_variables : Group → List Variable
+group_variables g = numbered g.0 g.1 0 g.2
+
 -- the variables of these groups
 abbrev variables_of : List Group → List Variable
 variables_of [] = []
-variables_of (g ∷ rest) = numbered g.letter g.width 0 g.count ++ variables_of rest
+variables_of (g ∷ rest) = group_variables g ++ variables_of rest
 
 -- the declarations of the groups from one on
 unfoldable pub groups_text : ℕ → List Group → ℕ → List ℕ
@@ -39,7 +46,7 @@ unfoldable pub count_from : List Group → ℕ → ℕ
 count_from groups i = length (variables_of (drop i groups))
 
 abbrev pub no_group : Group
-no_group = record { letter = 0; width = 0; count = 0 }
+no_group = (0, 0, 0)
 
 pub groups_text-all : (id : ℕ) → groups_text id GROUPS 0 ≡ declarations id variables
 unfolding groups_text variables
@@ -53,25 +60,22 @@ pub groups_text-none : (id i : ℕ) (groups : List Group) → length groups ≤ 
 unfolding groups_text
 groups_text-none id i groups h = ap (λ x. declarations id (variables_of x)) (drop_of_length-le groups h)
 
-drop_group : (groups : List Group) (i : ℕ) → i < length groups → drop i groups ≡ get_or groups i no_group ∷ drop (i + 1) groups
-drop_group groups i h = drop-cons groups i no_group h ∙ ap (λ j. get_or groups i no_group ∷ drop j groups) (let e : suc i ≡ i + 1 = omega arith in e)
-
 -- the declarations of a group, then those of the groups after it
-pub groups_text-turn : (id i : ℕ) (groups : List Group) → i < length groups → groups_text id groups i ≡ declarations id (numbered (get_or groups i no_group).letter (get_or groups i no_group).width 0 (get_or groups i no_group).count) ++ groups_text (id + (get_or groups i no_group).count) groups (i + 1)
+pub groups_text-turn : (id i : ℕ) (groups : List Group) → i < length groups → groups_text id groups i ≡ declarations id (group_variables (get_or groups i no_group)) ++ groups_text (id + (get_or groups i no_group).2) groups (i + 1)
 unfolding groups_text
 groups_text-turn id i groups h =
     let g : Group = get_or groups i no_group in
-    ap (λ x. declarations id (variables_of x)) (drop_group groups i h)
-    ∙ declarations-append id (numbered g.letter g.width 0 g.count) (variables_of (drop (i + 1) groups))
-    ∙ ap (λ n. declarations id (numbered g.letter g.width 0 g.count) ++ declarations (id + n) (variables_of (drop (i + 1) groups))) (length-numbered g.letter g.width 0 g.count)
+    ap (λ x. declarations id (variables_of x)) (drop_at groups i no_group h)
+    ∙ declarations-append id (group_variables g) (variables_of (drop (i + 1) groups))
+    ∙ ap (λ n. declarations id (group_variables g) ++ declarations (id + n) (variables_of (drop (i + 1) groups))) (length-numbered g.0 g.1 0 g.2)
 
-pub count_from-turn : (i : ℕ) (groups : List Group) → i < length groups → count_from groups i ≡ (get_or groups i no_group).count + count_from groups (i + 1)
+pub count_from-turn : (i : ℕ) (groups : List Group) → i < length groups → count_from groups i ≡ (get_or groups i no_group).2 + count_from groups (i + 1)
 unfolding count_from
 count_from-turn i groups h =
     let g : Group = get_or groups i no_group in
-    ap (λ x. length (variables_of x)) (drop_group groups i h)
-    ∙ length-append (numbered g.letter g.width 0 g.count) (variables_of (drop (i + 1) groups))
-    ∙ ap (λ n. n + length (variables_of (drop (i + 1) groups))) (length-numbered g.letter g.width 0 g.count)
+    ap (λ x. length (variables_of x)) (drop_at groups i no_group h)
+    ∙ length-append (group_variables g) (variables_of (drop (i + 1) groups))
+    ∙ ap (λ n. n + length (variables_of (drop (i + 1) groups))) (length-numbered g.0 g.1 0 g.2)
 
 -- a scope's lines one by one
 pub scope-parts : (opening : List ℕ) (more : ℕ) → scope_text opening more ≡ opening ++ (declarations (33 + more) variables ++ codes "$upscope $end\n")

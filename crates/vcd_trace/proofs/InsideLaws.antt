@@ -1,7 +1,6 @@
 -- The text of what is inside a block by its parts.
-use Rattle.std.proofs.Common.{◌≡◌, ℕ, ◌+◌, ◌*◌, ◌<◌, Bool, true, false, Option, List, [], ◌∷◌, ◌++◌, suc, length, drop, get_or, refl, sym, ap, ◌∙◌, append_assoc, append-nil, arith, cond, eqb, slice_index_or, zero}
+use Rattle.std.proofs.Common.{◌≡◌, ℕ, ◌+◌, ◌*◌, ◌<◌, Bool, true, false, Option, List, [], ◌∷◌, ◌++◌, length, drop, get_or, refl, sym, ap, ◌∙◌, append_assoc, append-nil, arith, cond, eqb}
 use Rattle.std.specs.Prelude.{codes, replicate, if◌then◌else◌}
-use Rattle.std.proofs.Math.Seq.{drop-cons}
 use Rattle.block_core.specs.declared.inside.MachineInside.{MachineInside}
 use Rattle.block_core.specs.declared.inside.Inside.{Inside}
 use Rattle.block_core.specs.Sample.{bits_of, same_numbers}
@@ -9,8 +8,7 @@ use Rattle.vcd_trace.specs.VcdText.{Variable, declaration, declarations, scope_t
 use Rattle.vcd_trace.specs.Groups.{bit_lines, bit_changes, vector_lines, vector_changes}
 use Rattle.vcd_trace.specs.InsideText.{bit_of, inside_changes_text, inside_dump_text, inside_header_text, machine_changes, machine_lines, machine_scope, machine_scopes, machine_values, machine_variables, machine_widths, machines_changes, machines_lines, named, pad_changes, pad_lines, pad_variables, pads_scope, scope_of}
 use Rattle.vcd_trace.specs.InsideGroups.{flags_of, long_of, machine_variable, place_of, register_changes, registers_of, same_registers, short_of, words_of}
-use Rattle.vcd_trace.specs.declared.inside_header.TheConstants.{WIDTHS}
-use Rattle.vcd_trace.proofs.TextLaws.{bit_changes-same, change_lines-append, one_line, value_lines-append}
+use Rattle.vcd_trace.proofs.TextLaws.{bit_changes-same, change_lines-append, drop_at, one_line, value_lines-append}
 use Rattle.vcd_trace.proofs.ChangesLaws.{both_true, change_lines-vectors, same_numbers-equal, value_lines-vectors, vector_changes-none}
 
 -- ---- parts in a row
@@ -144,20 +142,17 @@ inside_changes-parts a b =
 
 -- ---- the machines from a place on
 
-machine_at : {T : Type 0} (l : List T) (i : ℕ) (d : T) → i < length l → drop i l ≡ get_or l i d ∷ drop (i + 1) l
-machine_at l i d h = drop-cons l i d h ∙ ap (λ (j : ℕ). get_or l i d ∷ drop j l) (let e : suc i ≡ i + 1 = omega arith in e)
-
 pub machine_scopes-turn : (l : List Bool) (i : ℕ) (d : Bool) → i < length l → machine_scopes i (drop i l) ≡ (if get_or l i d then machine_scope i else []) ++ machine_scopes (i + 1) (drop (i + 1) l)
-machine_scopes-turn l i d h = ap (machine_scopes i) (machine_at l i d h)
+machine_scopes-turn l i d h = ap (machine_scopes i) (drop_at l i d h)
 
 pub machines_lines-turn : (l : List (Option MachineInside)) (i : ℕ) (d : Option MachineInside) → i < length l → machines_lines i (drop i l) ≡ machine_lines i (get_or l i d) ++ machines_lines (i + 1) (drop (i + 1) l)
-machines_lines-turn l i d h = ap (machines_lines i) (machine_at l i d h)
+machines_lines-turn l i d h = ap (machines_lines i) (drop_at l i d h)
 
 pub machines_changes-turn : (a b : List (Option MachineInside)) (i : ℕ) (d e : Option MachineInside) → i < length a → i < length b
     → machines_changes i (drop i a) (drop i b) ≡ machine_changes i (get_or a i d) (get_or b i e) ++ machines_changes (i + 1) (drop (i + 1) a) (drop (i + 1) b)
 machines_changes-turn a b i d e h k =
-    ap (λ (l : List (Option MachineInside)). machines_changes i l (drop i b)) (machine_at a i d h)
-    ∙ ap (λ (l : List (Option MachineInside)). machines_changes i (get_or a i d ∷ drop (i + 1) a) l) (machine_at b i e k)
+    ap (λ (l : List (Option MachineInside)). machines_changes i l (drop i b)) (drop_at a i d h)
+    ∙ ap (λ (l : List (Option MachineInside)). machines_changes i (get_or a i d ∷ drop (i + 1) a) l) (drop_at b i e k)
 
 -- ---- the declarations of a machine
 
@@ -181,20 +176,5 @@ length-machine_variables = refl
 pub named_text-turn : (first i : ℕ) → i < 10 → named_text first i ≡ declaration (first + i) (machine_variable i) ++ named_text first (i + 1)
 unfolding named_text machine_variable
 named_text-turn first i h =
-    ap (declarations (first + i)) (machine_at machine_variables i (named [] 0) (let within : i < length machine_variables = omega (arith, length-machine_variables) in within))
+    ap (declarations (first + i)) (drop_at machine_variables i (named [] 0) (let within : i < length machine_variables = omega (arith, length-machine_variables) in within))
     ∙ ap (λ (n : ℕ). declaration (first + i) (get_or machine_variables i (named [] 0)) ++ declarations n (drop (i + 1) machine_variables)) (let e : first + i + 1 ≡ first + (i + 1) = omega arith in e)
-
--- the widths of the table
-pub WIDTHS_at : (n : ℕ) → n < 10 → slice_index_or WIDTHS n 0 ≡ (machine_variable n).width
-unfolding machine_variable machine_variables
-WIDTHS_at zero h = refl
-WIDTHS_at (suc zero) h = refl
-WIDTHS_at (suc (suc zero)) h = refl
-WIDTHS_at (suc (suc (suc zero))) h = refl
-WIDTHS_at (suc (suc (suc (suc zero)))) h = refl
-WIDTHS_at (suc (suc (suc (suc (suc zero))))) h = refl
-WIDTHS_at (suc (suc (suc (suc (suc (suc zero)))))) h = refl
-WIDTHS_at (suc (suc (suc (suc (suc (suc (suc zero))))))) h = refl
-WIDTHS_at (suc (suc (suc (suc (suc (suc (suc (suc zero)))))))) h = refl
-WIDTHS_at (suc (suc (suc (suc (suc (suc (suc (suc (suc zero))))))))) h = refl
-WIDTHS_at (suc (suc (suc (suc (suc (suc (suc (suc (suc (suc n)))))))))) h = absurd (omega arith)

@@ -11,16 +11,15 @@ use Rattle.block_core.specs.declared.inside.Inside.{Inside}
 use Rattle.block_core.specs.Sample.{bits_of, same_numbers, same_sample, values_of}
 use Rattle.pio_edge.specs.Edge.{with_bytes, TakesPrefix}
 use Rattle.vcd_trace.specs.Shows.{AreInside}
-use Rattle.sample_trace.specs.Told.{IsNext, held_to, told_at}
-use Rattle.vcd_trace.specs.TextForm.{TextForm, added, ended, HasPut}
+use Rattle.vcd_trace.specs.TextForm.{HasPut}
 use Rattle.vcd_trace.specs.VcdText.{changes_over, clock_line, widths}
 use Rattle.vcd_trace.specs.InsideText.{bit_of, first_of_machine, inside_changes_text, inside_form, inside_open_text, inside_step_text, inside_text_of, machine_changes, machine_values, machine_widths, machine_variables, machines_changes, same_inside, same_machine, same_machines}
-use Rattle.vcd_trace.specs.InsideTold.{added_inside, ended_inside, places_code, taken_code, told_first}
+use Rattle.vcd_trace.specs.InsideTold.{places_code, taken_code, told_first}
 use Rattle.vcd_trace.specs.Groups.{bit_changes}
-use Rattle.vcd_trace.proofs.FormLaws.{AddsNothing, one_put, one_breaks, end_put, end_breaks}
+use Rattle.vcd_trace.proofs.FormLaws.{AddsNothing}
 use Rattle.vcd_trace.proofs.ToldLaws.{and_true, same_numbers-self, same_sample-self, same_sample-equal}
 use Rattle.vcd_trace.proofs.ChangesLaws.{both_true, length-bits_of, same_numbers-equal}
-use Rattle.vcd_trace.proofs.SilenceLaws.{bits_of-same, change_lines-none, changes_over-some, first_none, last_none}
+use Rattle.vcd_trace.proofs.SilenceLaws.{bits_of-same, change_lines-none, changes_over-some, first_none, last_none, same_numbers-from}
 use Rattle.vcd_trace.proofs.TextLaws.{change_lines-same}
 use Rattle.vcd_trace.proofs.InsideLaws.{inside_changes-parts}
 
@@ -168,9 +167,6 @@ length-values : (m : MachineInside) → length (machine_values m) ≡ length mac
 unfolding machine_widths machine_variables
 length-values m = refl
 
-same_numbers-from : (xs ys : List ℕ) → xs ≡ ys → same_numbers xs ys ≡ true
-same_numbers-from xs ys e = ap (λ (t : List ℕ). same_numbers xs t) (sym e) ∙ same_numbers-self xs
-
 same_machine-from : (place : ℕ) (a b : Option MachineInside) → is_some a ≡ is_some b → machine_changes place a b ≡ [] → same_machine a b ≡ true
 same_machine-from place None None s h = refl
 same_machine-from place None (Some b) s h = cc
@@ -209,15 +205,6 @@ pub inside_changes-some : (a b : Inside) → AreInside a b → same_inside a b �
 inside_changes-some a b = inside_some (same_sample a.sample b.sample) a b refl
 
 -- ---- what is told
-
--- what a clock adds is the same whichever machines are declared
-pub added-inside : (configured : List Bool) (clock : ℕ) (last : Option Inside) (now : Inside) → added (inside_form configured) clock last now ≡ added_inside clock last now
-added-inside configured clock None now = refl
-added-inside configured clock (Some before) now = refl
-
-pub ended-inside : (configured : List Bool) (clock : ℕ) (last : Option Inside) → ended (inside_form configured) clock last ≡ ended_inside clock last
-ended-inside configured clock None = refl
-ended-inside configured clock (Some before) = refl
 
 -- the machines that are declared are known from what is told of them
 some_code : (l : List Bool) → 0 < places_code l
@@ -279,32 +266,3 @@ begin_breaks own configured now taken taken' same bytes =
     let P : List Bool → Type 0 = λ places. TakesPrefix now (inside_open_text places []) taken' in
     let Q : Option (List ℕ) → Type 0 = λ before. TakesPrefix before (inside_open_text configured []) taken' in
     subst Q known.1 (subst P known.0 bytes)
-
-pub one_put_inside : (configured : List Bool) (b : Option (List ℕ)) (l : List Inside) (taken : Option (List ℕ)) (last : Option Inside) (clock : ℕ) (t : Inside) (taken' : Option (List ℕ)) (last' : Option Inside)
-    → HasPut (inside_form configured) b l false taken last → IsNext l clock → taken' ≡ with_bytes taken (added_inside clock last t) → last' ≡ Some t
-    → HasPut (inside_form configured) b (told_at clock t l) false taken' last'
-one_put_inside configured b l taken last clock t taken' last' h n k kept =
-    let f : TextForm Inside = inside_form configured in
-    let P : Option Inside → Type 0 = λ x. HasPut f b (told_at clock t l) false taken' x in
-    subst P (sym kept) (one_put f (inside_repeats_add-nothing configured) b l taken last clock t taken' h n (k ∙ ap (with_bytes taken) (sym (added-inside configured clock last t))))
-
-pub one_breaks_inside : (configured : List Bool) (b : Option (List ℕ)) (l : List Inside) (taken : Option (List ℕ)) (last : Option Inside) (clock : ℕ) (t : Inside) (taken' : Option (List ℕ))
-    → HasPut (inside_form configured) b l false taken last → IsNext l clock → TakesPrefix taken (added_inside clock last t) taken'
-    → TakesPrefix b (inside_text_of configured (told_at clock t l) false) taken'
-one_breaks_inside configured b l taken last clock t taken' h n k =
-    let f : TextForm Inside = inside_form configured in
-    let P : List ℕ → Type 0 = λ x. TakesPrefix taken x taken' in
-    one_breaks f (inside_repeats_add-nothing configured) b l taken last clock t taken' h n (subst P (sym (added-inside configured clock last t)) k)
-
-pub end_put_inside : (configured : List Bool) (b : Option (List ℕ)) (l : List Inside) (taken : Option (List ℕ)) (last : Option Inside) (clock : ℕ) (taken' : Option (List ℕ))
-    → HasPut (inside_form configured) b l false taken last → IsNext l clock → taken' ≡ with_bytes taken (ended_inside clock last)
-    → HasPut (inside_form configured) b (held_to clock l) true taken' last
-end_put_inside configured b l taken last clock taken' h n k =
-    end_put (inside_form configured) (inside_repeats_add-nothing configured) b l taken last clock taken' h n (k ∙ ap (with_bytes taken) (sym (ended-inside configured clock last)))
-
-pub end_breaks_inside : (configured : List Bool) (b : Option (List ℕ)) (l : List Inside) (taken : Option (List ℕ)) (last : Option Inside) (clock : ℕ) (taken' : Option (List ℕ))
-    → HasPut (inside_form configured) b l false taken last → IsNext l clock → TakesPrefix taken (ended_inside clock last) taken'
-    → TakesPrefix b (inside_text_of configured (held_to clock l) true) taken'
-end_breaks_inside configured b l taken last clock taken' h n k =
-    let P : List ℕ → Type 0 = λ x. TakesPrefix taken x taken' in
-    end_breaks (inside_form configured) (inside_repeats_add-nothing configured) b l taken last clock taken' h n (subst P (sym (ended-inside configured clock last)) k)

@@ -7,7 +7,6 @@ pub mod HeaderLaws
 pub mod InsideLaws
 pub mod InsideSame
 pub mod PlaceLaws
-pub mod RoomLaws
 pub mod SilenceLaws
 pub mod TextLaws
 pub mod ToldLaws

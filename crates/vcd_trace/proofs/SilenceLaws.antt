@@ -57,7 +57,7 @@ parts_same (x ∷ a) (y ∷ a') b b' e h =
     let s : a ≡ a' = t.0 in
     (cc, t.1)
 
-same_numbers-from : (xs ys : List ℕ) → xs ≡ ys → same_numbers xs ys ≡ true
+pub same_numbers-from : (xs ys : List ℕ) → xs ≡ ys → same_numbers xs ys ≡ true
 same_numbers-from xs ys e = ap (λ t. same_numbers xs t) (sym e) ∙ same_numbers-self xs
 
 -- samples with the same values are the same

@@ -1,5 +1,5 @@
 -- Laws of the lines of values and changes.
-use Rattle.std.proofs.Common.{◌≡◌, ℕ, ◌+◌, ◌-◌, ◌/◌, ◌%◌, ◌<◌, false, cond, eqb, List, [], ◌∷◌, ◌++◌, suc, length, drop, get_or, Result, IsErr, refl, sym, ap, ◌∙◌, append_assoc, append-nil, arith, eq-eqb, subst}
+use Rattle.std.proofs.Common.{◌≡◌, ℕ, ◌+◌, ◌-◌, ◌/◌, ◌%◌, ◌<◌, false, cond, eqb, List, [], ◌∷◌, ◌++◌, suc, length, drop, get_or, Result, IsErr, add-one, refl, sym, ap, ◌∙◌, append_assoc, append-nil, arith, eq-eqb, subst}
 use borrow.Author.Tests.{ne_eqb}
 use Rattle.std.proofs.Common.{Option}
 use Rattle.pio_edge.specs.Edge.{with_bytes, TakesPrefix, Takes}
@@ -62,13 +62,13 @@ unfolding bit_changes bits_of
 bit_changes-step id more before now = refl
 
 -- the elements from a place on are the one there and those after it
-drop_at : (xs : List ℕ) (i : ℕ) → i < length xs → drop i xs ≡ get_or xs i 0 ∷ drop (i + 1) xs
-drop_at xs i h = drop-cons xs i 0 h ∙ ap (λ j. get_or xs i 0 ∷ drop j xs) (let e : suc i ≡ i + 1 = omega arith in e)
+pub drop_at : {T : Type 0} (xs : List T) (i : ℕ) (d : T) → i < length xs → drop i xs ≡ get_or xs i d ∷ drop (i + 1) xs
+drop_at xs i d h = rw (add-one, drop-cons xs i d)
 
 -- the values at a place, then those after it
 pub vector_changes-step : (id i : ℕ) (before now : List ℕ) → i < length before → i < length now → vector_changes id (drop i before) (drop i now) ≡ cond (eqb (get_or before i 0) (get_or now i 0)) [] (vector_line id (get_or now i 0)) ++ vector_changes (id + 1) (drop (i + 1) before) (drop (i + 1) now)
 vector_changes-step id i before now h k =
-    ap (λ t. vector_changes id t (drop i now)) (drop_at before i h) ∙ ap (vector_changes id (get_or before i 0 ∷ drop (i + 1) before)) (drop_at now i k)
+    ap (λ t. vector_changes id t (drop i now)) (drop_at before i 0 h) ∙ ap (vector_changes id (get_or before i 0 ∷ drop (i + 1) before)) (drop_at now i 0 k)
 
 -- the values from one on: its line where it changes, then those after it
 pub vector_changes-turn : (first i : ℕ) (before now : List ℕ) → i < length before → i < length now → vector_changes (first + i) (drop i before) (drop i now) ≡ cond (eqb (get_or before i 0) (get_or now i 0)) [] (vector_line (first + i) (get_or now i 0)) ++ vector_changes (first + (i + 1)) (drop (i + 1) before) (drop (i + 1) now)
@@ -94,7 +94,7 @@ bit_lines-turn first count step now h =
 -- the values from one on: its line, then those after it
 pub vector_lines-turn : (first i : ℕ) (now : List ℕ) → i < length now → vector_lines (first + i) (drop i now) ≡ vector_line (first + i) (get_or now i 0) ++ vector_lines (first + (i + 1)) (drop (i + 1) now)
 vector_lines-turn first i now k =
-    ap (vector_lines (first + i)) (drop_at now i k)
+    ap (vector_lines (first + i)) (drop_at now i 0 k)
     ∙ ap (λ j. vector_line (first + i) (get_or now i 0) ++ vector_lines j (drop (i + 1) now)) (let e : first + i + 1 ≡ first + (i + 1) = omega arith in e)
 
 -- nothing is left of the rest, so the whole text was taken

@@ -6,7 +6,7 @@
 --   told_text     one of the two
 --   HasPut        a sink has taken the text of some, and the last one is remembered
 --   added, ended  what one more adds, and what the end adds
-use Rattle.std.specs.Prelude.{◌≡◌, ℕ, ◌+◌, Bool, true, false, Option, Some, None, List, [], ◌∷◌, ◌++◌, length}
+use Rattle.std.specs.Prelude.{◌≡◌, ℕ, ◌+◌, Bool, true, false, Option, Some, None, List, [], ◌∷◌, ◌++◌, length, is_some, if◌then◌else◌}
 use Rattle.pio_edge.specs.Edge.{with_bytes}
 use Rattle.sample_trace.specs.Told.{last_of}
 
@@ -59,5 +59,4 @@ added f clock (Some before) now = f.later clock before now
 
 -- what the end adds to the text, after the last one
 abbrev pub ended : {T : Type 0} → TextForm T → ℕ → Option T → List ℕ
-ended f clock None = []
-ended f clock (Some before) = f.closing clock
+ended f clock last = if is_some last then f.closing clock else []

@@ -29,9 +29,9 @@ pub(crate) fn put_next<S: Sink>(
     put_others(sink, last, now)
 }
 
-// Whether two samples agree in all but the levels.
+/// Whether two samples agree in all but the levels.
 #[inline(always)]
-fn has_same_rest(before: &Sample, now: &Sample) -> bool
+pub(crate) fn has_same_rest(before: &Sample, now: &Sample) -> bool
     ensures { result ≡ same_rest before.now now.now }
 {
     before.direction == now.direction && before.flags == now.flags && has_same_words(before, now)
@@ -119,15 +119,12 @@ fn put_changed_words<S: Sink>(
     put_words(sink, first, before, now)
 }
 
-// Whether two samples agree in the values of more than one bit.
+// Whether two samples agree in the values of more than one bit. The lists of bytes are compared by their copies, each at once.
 #[inline(always)]
 fn has_same_words(before: &Sample, now: &Sample) -> bool
     ensures { result ≡ same_words before.now now.now }
 {
-    before.got == now.got
-        && before.tx == now.tx
-        && before.rx == now.rx
-        && before.sticky == now.sticky
+    before.got == now.got && (before.tx, before.rx, before.sticky) == (now.tx, now.rx, now.sticky)
 }
 
 // The same where one changes. A call of its own, which keeps the comparison short.

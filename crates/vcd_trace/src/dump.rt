@@ -1,5 +1,5 @@
 //! All values of a sample, in the order of their identifiers.
-ghost use Rattle.std.specs.Prelude.{◌≡◌, ℕ, ◌+◌, ◌≤◌};
+ghost use Rattle.std.specs.Prelude.{◌≡◌, ℕ, ◌+◌, ◌≤◌, length};
 ghost use Rattle.pio_edge.specs.Edge.{Takes, PutCounts};
 ghost use Rattle.vcd_trace.specs.VcdText.{dump_text, values_over};
 ghost use Rattle.vcd_trace.specs.Groups.{bit_lines, vector_lines};
@@ -66,13 +66,13 @@ pub(crate) fn put_bits<S: Sink>(
     Ok(())
 }
 
-fn put_vectors<S: Sink>(sink: &mut S, first: u8, now: &[u32; 16]) -> Result<(), SinkFailed>
-    requires { first + 16 ≤ 256 }
-    ensures bytes { Takes (S.taken sink.old) (vector_lines first now.now)
-        (S.taken sink.new) result }
+/// The values of more than one bit.
+pub(crate) fn put_vectors<S: Sink>(sink: &mut S, first: u8, now: &[u32]) -> Result<(), SinkFailed>
+    requires { first + length now.now ≤ 256 }
+    ensures bytes { Takes (S.taken sink.old) (vector_lines first now.now) (S.taken sink.new) result }
     ensures cause { PutCounts (S.faults sink.old) (S.faults sink.new) result }
 {
-    for place in 0..16 {
+    for place in 0..now.len() {
         put_vector(sink, first + place as u8, now[place])?;
     }
     Ok(())

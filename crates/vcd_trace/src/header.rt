@@ -10,50 +10,15 @@ use arrayvec::ArrayString;
 use itoa::Buffer;
 use pio_edge::{Sink, SinkFailed};
 
-/// Variables that differ in their number alone.
-#[derive(Clone, Copy)]
-pub(crate) struct Group {
-    pub(crate) letter: u8,
-    pub(crate) width: u8,
-    pub(crate) count: u8,
-}
-
-const GROUPS: [Group; 7] = [
-    Group {
-        letter: b'p',
-        width: 1,
-        count: 32,
-    },
-    Group {
-        letter: b'd',
-        width: 1,
-        count: 32,
-    },
-    Group {
-        letter: b'f',
-        width: 1,
-        count: 8,
-    },
-    Group {
-        letter: b't',
-        width: 4,
-        count: 4,
-    },
-    Group {
-        letter: b'r',
-        width: 4,
-        count: 4,
-    },
-    Group {
-        letter: b'w',
-        width: 32,
-        count: 4,
-    },
-    Group {
-        letter: b's',
-        width: 4,
-        count: 4,
-    },
+/// The variables of a sample in groups, which differ in their number alone: the letter, the width, and how many.
+const GROUPS: [(u8, u8, u8); 7] = [
+    (b'p', 1, 32),
+    (b'd', 1, 32),
+    (b'f', 1, 8),
+    (b't', 4, 4),
+    (b'r', 4, 4),
+    (b'w', 32, 4),
+    (b's', 4, 4),
 ];
 
 /// Puts the declarations, each line as one piece.
@@ -96,23 +61,29 @@ fn put_declarations<S: Sink>(sink: &mut S, first: u8) -> Result<(), SinkFailed>
 {
     let mut id = first;
     for group in &GROUPS {
-        put_group(sink, id, *group)?;
-        id += group.count;
+        let (letter, width, count) = *group;
+        put_group(sink, id, letter, width, count)?;
+        id += count;
     }
     Ok(())
 }
 
 /// The declarations of a group, whose identifiers count on from one.
-pub(crate) fn put_group<S: Sink>(sink: &mut S, first: u8, group: Group) -> Result<(), SinkFailed>
-    requires ids { first + group.count ≤ 255 }
-    requires letter { group.letter < 128 }
-    ensures bytes { Takes (S.taken sink.old)
-        (declarations first (numbered group.letter group.width 0 group.count))
+pub(crate) fn put_group<S: Sink>(
+    sink: &mut S,
+    first: u8,
+    letter: u8,
+    width: u8,
+    count: u8,
+) -> Result<(), SinkFailed>
+    requires ids { first + count ≤ 255 }
+    requires letter { letter < 128 }
+    ensures bytes { Takes (S.taken sink.old) (declarations first (numbered letter width 0 count))
         (S.taken sink.new) result }
     ensures cause { PutCounts (S.faults sink.old) (S.faults sink.new) result }
 {
-    for number in 0..group.count {
-        put_declaration(sink, first + number, group.letter, group.width, number)?;
+    for number in 0..count {
+        put_declaration(sink, first + number, letter, width, number)?;
     }
     Ok(())
 }

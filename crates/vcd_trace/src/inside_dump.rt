@@ -1,13 +1,11 @@
 //! All values of what is inside a block, in the order of their identifiers.
 ghost use Rattle.std.specs.Prelude.{◌≡◌, ◌+◌, ◌≤◌, ◌<◌, ◌++◌, length};
 ghost use Rattle.pio_edge.specs.Edge.{Takes, PutCounts};
-ghost use Rattle.vcd_trace.specs.Groups.{vector_lines};
 ghost use Rattle.vcd_trace.specs.VcdText.{value_lines};
 ghost use Rattle.vcd_trace.specs.InsideText.{inside_dump_text, machine_lines, machine_values};
 ghost use Rattle.vcd_trace.specs.InsideText.{machine_widths, machines_lines};
 
-use crate::dump::{put_bits, put_values};
-use crate::line::put_vector;
+use crate::dump::{put_bits, put_values, put_vectors};
 use crate::machine::{bits_of, words_of};
 use crate::variable::{MACHINE, MACHINE_VALUES, PAD};
 use block_core::{Inside, MachineInside};
@@ -61,18 +59,6 @@ fn put_machine<S: Sink>(sink: &mut S, first: u8, machine: &MachineInside) -> Res
     ensures bytes { Takes (S.taken sink.old) (value_lines first machine_widths (machine_values machine.now)) (S.taken sink.new) result }
     ensures cause { PutCounts (S.faults sink.old) (S.faults sink.new) result }
 {
-    put_words(sink, first, &words_of(machine))?;
+    put_vectors(sink, first, &words_of(machine))?;
     put_bits(sink, first + 8, 2, bits_of(machine))
-}
-
-// The values of more than one bit.
-fn put_words<S: Sink>(sink: &mut S, first: u8, now: &[u32; 8]) -> Result<(), SinkFailed>
-    requires { first + 8 ≤ 256 }
-    ensures bytes { Takes (S.taken sink.old) (vector_lines first now.now) (S.taken sink.new) result }
-    ensures cause { PutCounts (S.faults sink.old) (S.faults sink.new) result }
-{
-    for place in 0..8 {
-        put_vector(sink, first + place as u8, now[place])?;
-    }
-    Ok(())
 }

@@ -6,7 +6,7 @@ ghost use Rattle.vcd_trace.specs.InsideText.{first_of_machine, inside_header_tex
 ghost use Rattle.vcd_trace.specs.InsideText.{machine_scopes, machine_variables, named, pads_scope};
 ghost use Rattle.vcd_trace.specs.InsideGroups.{machine_variable};
 
-use crate::header::{Group, identifier_of, put_group, put_scope};
+use crate::header::{identifier_of, put_group, put_scope};
 use crate::variable::{MACHINE, MACHINE_VALUES, PAD};
 use arrayvec::ArrayString;
 use itoa::Buffer;
@@ -32,13 +32,8 @@ fn put_pads<S: Sink>(sink: &mut S) -> Result<(), SinkFailed>
     ensures bytes { Takes (S.taken sink.old) pads_scope (S.taken sink.new) result }
     ensures cause { PutCounts (S.faults sink.old) (S.faults sink.new) result }
 {
-    let pads = Group {
-        letter: b'i',
-        width: 1,
-        count: 32,
-    };
     sink.put(b"$scope module pads $end\n")?;
-    put_group(sink, PAD, pads)?;
+    put_group(sink, PAD, b'i', 1, 32)?;
     sink.put(b"$upscope $end\n")
 }
 
@@ -95,40 +90,33 @@ fn put_machine_variables<S: Sink>(sink: &mut S, first: u8) -> Result<(), SinkFai
     ensures cause { PutCounts (S.faults sink.old) (S.faults sink.new) result }
 {
     for number in 0..MACHINE_VALUES {
-        put_named(sink, first + number, name_of(number), width_of(number))?;
+        let (name, width) = variable_of(number);
+        put_named(sink, first + number, name, width)?;
     }
     Ok(())
 }
 
-// The name of a machine's variable.
-fn name_of(number: u8) -> &'static str
+// The name of a machine's variable, and its width.
+#[tactic(auto, unfolding(crate::specs::InsideText::machine_variables, crate::specs::InsideGroups::machine_variable))]
+fn variable_of(number: u8) -> (&'static str, u8)
     requires { number < 10 }
-    ensures name { result.now ≡ (machine_variable number).name }
-    ensures short { length result.now ≤ 11 }
+    ensures name { result.0.now ≡ (machine_variable number).name }
+    ensures width { result.1 ≡ (machine_variable number).width }
+    ensures short { length result.0.now ≤ 11 }
 {
     match number {
-        0 => "pc",
-        1 => "instruction",
-        2 => "x",
-        3 => "y",
-        4 => "isr",
-        5 => "osr",
-        6 => "isr_count",
-        7 => "osr_count",
-        8 => "waits",
-        _ => "enabled",
+        0 => ("pc", 5),
+        1 => ("instruction", 16),
+        2 => ("x", 32),
+        3 => ("y", 32),
+        4 => ("isr", 32),
+        5 => ("osr", 32),
+        6 => ("isr_count", 6),
+        7 => ("osr_count", 6),
+        8 => ("waits", 1),
+        _ => ("enabled", 1),
     }
 }
-
-// Its width.
-fn width_of(number: u8) -> u8
-    requires { number < 10 }
-    ensures { result ≡ (machine_variable number).width }
-{
-    WIDTHS[usize::from(number)]
-}
-
-const WIDTHS: [u8; 10] = [5, 16, 32, 32, 32, 32, 6, 6, 1, 1];
 
 // The declaration of a variable of this name and width.
 fn put_named<S: Sink>(sink: &mut S, id: u8, name: &str, width: u8) -> Result<(), SinkFailed>

@@ -1,15 +1,15 @@
 //! The value-change trace of what is inside a block (IEEE 1364-2005, section 18), into a sink that was lent.
 ghost use Rattle.std.specs.Prelude.{◌≡◌, ℕ, Bool, List, Option, true, false, [], Some, OnOk};
 ghost use Rattle.pio_edge.specs.Edge.{Takes, PutCounts, TakesPrefix};
-ghost use Rattle.vcd_trace.specs.TextForm.{HasPut};
+ghost use Rattle.vcd_trace.specs.TextForm.{HasPut, added};
 ghost use Rattle.vcd_trace.specs.InsideText.{inside_dump_text, inside_form, inside_open_text, inside_step_text};
 ghost use Rattle.vcd_trace.specs.InsideText.{inside_text_of, same_inside};
-ghost use Rattle.vcd_trace.specs.InsideTold.{added_inside, ended_inside, told_first};
+ghost use Rattle.vcd_trace.specs.InsideTold.{told_first};
 
 use crate::changes::{put_changed_bits, put_next};
 use crate::inside_dump::put_inside_dump;
 use crate::inside_header::put_inside_header;
-use crate::line::put_clock;
+use crate::line::{put_clock, put_end};
 use crate::usual::Rooms;
 use crate::variable::PAD;
 use crate::vcd::is_same;
@@ -120,7 +120,8 @@ fn put_inside<S: Sink>(
     last: &mut Option<Inside>,
     inside: &Inside,
 ) -> Result<(), SinkFailed>
-    ensures bytes { Takes (S.taken sink.old) (added_inside clock last.old inside.now) (S.taken sink.new) result }
+    ensures bytes { (configured : List Bool) → Takes (S.taken sink.old)
+        (added (inside_form configured) clock last.old inside.now) (S.taken sink.new) result }
     ensures cause { PutCounts (S.faults sink.old) (S.faults sink.new) result }
     ensures kept { OnOk result (last.new ≡ Some inside.now) }
 {
@@ -192,17 +193,6 @@ fn put_others<S: Sink>(
     last.pads = now.pads;
     last.machines = now.machines;
     Ok(())
-}
-
-// What the end adds after what was told last.
-fn put_end<S: Sink>(sink: &mut S, clock: u64, last: &Option<Inside>) -> Result<(), SinkFailed>
-    ensures bytes { Takes (S.taken sink.old) (ended_inside clock last.now) (S.taken sink.new) result }
-    ensures cause { PutCounts (S.faults sink.old) (S.faults sink.new) result }
-{
-    match last {
-        None => Ok(()),
-        Some(_) => put_clock(sink, clock),
-    }
 }
 
 // Whether the same is inside as before.

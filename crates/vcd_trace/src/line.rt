@@ -1,5 +1,5 @@
 //! The lines of the value-change text, each put as one piece (IEEE 1364-2005, section 18.2).
-ghost use Rattle.std.specs.Prelude.{◌≡◌, ℕ, ◌+◌, ◌-◌, ◌<◌, ◌≤◌, ◌++◌, ◌∷◌, false, drop, length};
+ghost use Rattle.std.specs.Prelude.{◌≡◌, ℕ, ◌+◌, ◌-◌, ◌<◌, ◌≤◌, ◌++◌, ◌∷◌, [], false, drop, length, is_some, if◌then◌else◌};
 ghost use Rattle.std.specs.Fmt.{digits};
 ghost use Rattle.pio_edge.specs.Edge.{Takes, PutCounts};
 ghost use Rattle.vcd_trace.specs.Characters.{letter_b, newline, tilde};
@@ -19,6 +19,21 @@ pub(crate) fn put_clock<S: Sink>(sink: &mut S, clock: u64) -> Result<(), SinkFai
     let mut line = [0; CLOCK_ROOM];
     let start = write_clock(&mut line, clock);
     sink.put(&line[start..])
+}
+
+/// What the end adds to a text: the line of its clock, where something was told.
+pub(crate) fn put_end<S: Sink, V>(
+    sink: &mut S,
+    clock: u64,
+    last: &Option<V>,
+) -> Result<(), SinkFailed>
+    ensures bytes { Takes (S.taken sink.old) (if is_some last.now then clock_line clock else []) (S.taken sink.new) result }
+    ensures cause { PutCounts (S.faults sink.old) (S.faults sink.new) result }
+{
+    match last {
+        None => Ok(()),
+        Some(_) => put_clock(sink, clock),
+    }
 }
 
 /// Room for `#`, the 20 digits of the greatest number and the newline.

@@ -2,13 +2,13 @@
 //! that was lent.
 ghost use Rattle.std.specs.Prelude.{◌≡◌, false, []};
 ghost use Rattle.pio_edge.specs.Edge.{Takes, PutCounts, TakesPrefix};
-ghost use Rattle.vcd_trace.specs.TextForm.{HasPut, added, ended};
+ghost use Rattle.vcd_trace.specs.TextForm.{HasPut, added};
 ghost use Rattle.vcd_trace.specs.TwinText.{twin_form, twin_open_text, twin_step_text, twin_text_of, same_samples};
 
 use crate::changes::put_changes;
 use crate::dump::put_twin_dump;
 use crate::header::put_twin_header;
-use crate::line::put_clock;
+use crate::line::{put_clock, put_end};
 use crate::variable::SECOND;
 use crate::vcd::is_same;
 use block_core::Sample;
@@ -115,21 +115,6 @@ fn put_samples<S: Sink>(
     match last {
         None => put_twin_dump(sink, &samples.0, &samples.1),
         Some(before) => put_step(sink, clock, before, samples),
-    }
-}
-
-// What the end adds after the samples that were told last.
-fn put_end<S: Sink>(
-    sink: &mut S,
-    clock: u64,
-    last: &Option<(Sample, Sample)>,
-) -> Result<(), SinkFailed>
-    ensures bytes { Takes (S.taken sink.old) (ended twin_form clock last.now) (S.taken sink.new) result }
-    ensures cause { PutCounts (S.faults sink.old) (S.faults sink.new) result }
-{
-    match last {
-        None => Ok(()),
-        Some(_) => put_clock(sink, clock),
     }
 }
 

@@ -8,6 +8,7 @@ ghost use Rattle.vcd_trace.specs.InsideText.{bit_of, inside_step_text, machine_c
 ghost use Rattle.vcd_trace.specs.InsideGroups.{counts_of, place_of, register_changes};
 ghost use Rattle.vcd_trace.specs.PlaceText as spec;
 
+use crate::changes::has_same_rest;
 use crate::clock_line::ClockLine;
 use crate::line::{CLOCK_ROOM, LINE_ROOM, write_bit, write_vector};
 use crate::machine::has_same_registers;
@@ -127,18 +128,7 @@ fn changes_a_level(before: &Sample, now: &Sample) -> bool
         ≡ bit_changes 33 32 before.now.level now.now.level }
     ensures level { result ≡ true → spec.one_changes before.now.level now.now.level }
 {
-    one_changes(before.level, now.level) && keeps_rest(before, now)
-}
-
-// Whether two samples agree in all but the levels. The lists of bytes are compared by their copies, each at once.
-#[inline(always)]
-fn keeps_rest(before: &Sample, now: &Sample) -> bool
-    ensures { result ≡ same_rest before.now now.now }
-{
-    before.direction == now.direction
-        && before.flags == now.flags
-        && before.got == now.got
-        && (before.tx, before.rx, before.sticky) == (now.tx, now.rx, now.sticky)
+    one_changes(before.level, now.level) && has_same_rest(before, now)
 }
 
 // Whether at most one bit changes.

@@ -2,7 +2,7 @@
 ghost use Rattle.std.specs.Prelude.{◌≡◌, false, [], Some, OnOk};
 ghost use Rattle.pio_edge.specs.Edge.{Takes, PutCounts, TakesPrefix};
 ghost use Rattle.block_core.specs.Sample.{same_sample};
-ghost use Rattle.vcd_trace.specs.TextForm.{HasPut, added, ended};
+ghost use Rattle.vcd_trace.specs.TextForm.{HasPut, added};
 ghost use Rattle.vcd_trace.specs.VcdText.{vcd_form, dump_text, open_text, step_text, text_of};
 ghost use Rattle.vcd_trace.specs.VcdText as spec;
 
@@ -10,7 +10,7 @@ use crate::changes::put_next;
 use crate::clock_line::ClockLine;
 use crate::dump::put_dump;
 use crate::header::put_header;
-use crate::line::put_clock;
+use crate::line::{put_clock, put_end};
 use block_core::Sample;
 use pio_edge::{Sink, SinkFailed};
 use sample_trace::{Trace, TraceFailed};
@@ -81,7 +81,7 @@ impl<'a, S: Sink> Trace<Sample> for VcdTrace<'a, S> {
     }
 
     fn end(&mut self, clock: u64) -> Result<(), TraceFailed> {
-        match put_end(self.sink, clock, self.last) {
+        match put_end(self.sink, clock, &self.last) {
             Ok(()) => Ok(()),
             Err(SinkFailed) => {
                 self.failed = true;
@@ -151,17 +151,6 @@ fn put_first<S: Sink>(
     put_dump(sink, sample)?;
     *last = Some(*sample);
     Ok(())
-}
-
-// What the end adds after the sample that was told last.
-fn put_end<S: Sink>(sink: &mut S, clock: u64, last: Option<Sample>) -> Result<(), SinkFailed>
-    ensures bytes { Takes (S.taken sink.old) (ended vcd_form clock last) (S.taken sink.new) result }
-    ensures cause { PutCounts (S.faults sink.old) (S.faults sink.new) result }
-{
-    match last {
-        None => Ok(()),
-        Some(_) => put_clock(sink, clock),
-    }
 }
 
 // What a clock adds after the one before it, which shows something else. Its sample is then the last one.

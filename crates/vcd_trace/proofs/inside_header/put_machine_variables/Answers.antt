@@ -19,8 +19,8 @@ returns-in_err-put_named-clause-bytes g c =
     let first = c.args.first in
     let n = l.number in
     let turn = named_text-turn first n c.loop-number-test.true
-    ∙ ap (λ t. declaration (first + n) (named t (machine_variable n).width) ++ named_text first (n + 1)) (sym c.name_of.ensures.name)
-    ∙ ap (λ w. declaration (first + n) (named c.name_of.result.now w) ++ named_text first (n + 1)) (sym c.width_of.ensures) in
+    ∙ ap (λ t. declaration (first + n) (named t (machine_variable n).width) ++ named_text first (n + 1)) (sym c.variable_of-width.ensures.name)
+    ∙ ap (λ w. declaration (first + n) (named c.variable_of-width.result.0.now w) ++ named_text first (n + 1)) (sym c.variable_of-width.ensures.width) in
     takes_failed _ _ _ _ _ _ _ c.from_residual.result l.invariant.going turn c.from_residual.ensures.0 c.in_err-put_named.ensures.bytes
 
 pub loop-number-preserved : goal.loop-number-preserved
@@ -29,8 +29,8 @@ loop-number-preserved g c =
     let first = c.args.first in
     let n = l.number in
     let turn = named_text-turn first n c.loop-number-test.true
-    ∙ ap (λ t. declaration (first + n) (named t (machine_variable n).width) ++ named_text first (n + 1)) (sym c.name_of.ensures.name)
-    ∙ ap (λ w. declaration (first + n) (named c.name_of.result.now w) ++ named_text first (n + 1)) (sym c.width_of.ensures) in
+    ∙ ap (λ t. declaration (first + n) (named t (machine_variable n).width) ++ named_text first (n + 1)) (sym c.variable_of-width.ensures.name)
+    ∙ ap (λ w. declaration (first + n) (named c.variable_of-width.result.0.now w) ++ named_text first (n + 1)) (sym c.variable_of-width.ensures.width) in
     record {
       going = going_on _ _ _ _ _ _ _ l.invariant.going turn c.in_ok-put_named.ensures.bytes;
       counts = c.in_ok-put_named.ensures.cause.ok ∙ l.invariant.counts;

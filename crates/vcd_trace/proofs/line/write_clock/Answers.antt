@@ -1,9 +1,9 @@
-use Rattle.std.proofs.Common.{ℕ, ◌<◌, ◌≤◌, ◌^◌, ◌∷◌, ◌++◌, length, arith, ap, ◌∙◌}
+use Rattle.std.proofs.Common.{ℕ, ◌-◌, ◌<◌, ◌≤◌, ◌^◌, [], ◌∷◌, ◌++◌, drop, length, refl, arith, ap, ◌∙◌}
 use Rattle.std.specs.Fmt.{decimal}
 use Rattle.std.proofs.lemmas.Fmt.{length-decimal-le}
 use Rattle.std.proofs.Math.ListN.{length-set}
-use Rattle.vcd_trace.proofs.Digits.{put_before}
-use Rattle.vcd_trace.proofs.RoomLaws.{last_one}
+use Rattle.std.proofs.lemmas.List.{drop_all}
+use Rattle.vcd_trace.proofs.Digits.{put_at}
 use Rattle.vcd_trace.proofs.line.write_clock.Goals as goal
 
 -- the greatest number has 20 digits
@@ -25,5 +25,6 @@ returns-clause-text c =
     let clock = c.args.clock in
     let short = twenty_digits clock (omega arith) in
     let w = c.write_digits-start in
-    put_before w.new.buf w.result 35 (omega (arith, short, w.ensures.start)) (omega (arith, w.ensures.start))
-    ∙ ap (λ l. 35 ∷ l) (w.ensures.written ∙ ap (λ l. decimal clock ++ l) (last_one c.args.line.now 10 (omega arith)))
+    let last = put_at c.args.line.now 21 22 10 [] refl (omega arith) (drop_all 22 c.args.line.now (omega arith)) in
+    put_at w.new.buf (w.result - 1) w.result 35 (drop w.result w.new.buf) (omega (arith, short, w.ensures.start)) (omega (arith, w.ensures.start)) refl
+    ∙ ap (λ l. 35 ∷ l) (w.ensures.written ∙ ap (λ l. decimal clock ++ l) last)

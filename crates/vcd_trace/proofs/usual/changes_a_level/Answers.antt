@@ -9,4 +9,4 @@ returns-then-one_changes-clause-levels c = λ is.
     let b = c.args.now.now in
     let words_a : length (vectors_of a) ≡ 16 = length-vectors_of a (omega arith) (omega arith) (omega arith) (omega arith) in
     let words_b : length (vectors_of b) ≡ 16 = length-vectors_of b (omega arith) (omega arith) (omega arith) (omega arith) in
-    same_rest-changes a b words_a words_b (sym c.keeps_rest.ensures ∙ is)
+    same_rest-changes a b words_a words_b (sym c.has_same_rest.ensures ∙ is)

@@ -1,8 +1,12 @@
-use Rattle.vcd_trace.proofs.InsideSame.{end_put_inside, end_breaks_inside}
+use Rattle.vcd_trace.specs.InsideText.{inside_form}
+use Rattle.vcd_trace.proofs.FormLaws.{end_put, end_breaks}
+use Rattle.vcd_trace.proofs.InsideSame.{inside_repeats_add-nothing}
 use Rattle.vcd_trace.proofs.inside_vcd.InsideVcdTraceInside.end.Goals as goal
 
 pub returns-in-Ok-clause-ok : goal.returns-in-Ok-clause-ok
-returns-in-Ok-clause-ok g c = λ b l h n configured taken e. end_put_inside configured taken l _ _ _ _ (h configured taken e) n c.in-Ok.ensures.bytes
+returns-in-Ok-clause-ok g c = λ b l h n configured taken e.
+    end_put (inside_form configured) (inside_repeats_add-nothing configured) taken l _ _ _ _ (h configured taken e) n c.in-Ok.ensures.bytes
 
 pub returns-in-Err-clause-err : goal.returns-in-Err-clause-err
-returns-in-Err-clause-err g c = λ b l h n configured taken e. end_breaks_inside configured taken l _ _ _ _ (h configured taken e) n c.in-Err.ensures.bytes
+returns-in-Err-clause-err g c = λ b l h n configured taken e.
+    end_breaks (inside_form configured) (inside_repeats_add-nothing configured) taken l _ _ _ _ (h configured taken e) n c.in-Err.ensures.bytes
