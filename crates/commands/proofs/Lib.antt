@@ -4,10 +4,9 @@ pub mod WordsWanted
 pub mod FilesAsked
 pub mod PassedRecords
 pub mod WorkedClocks
-pub mod VerdictText
+pub mod SpanLines
 pub mod TaskOf
 pub mod TaskDone
-pub mod SeenLines
 pub mod MetersSeen
 pub mod StoppedRuns
 pub mod AllFramesSent

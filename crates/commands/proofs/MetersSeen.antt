@@ -7,6 +7,7 @@ use Rattle.span_meter.specs.declared.seen.SeenDistances.{SeenDistances}
 use Rattle.span_meter.specs.Measured.{SpanEdges, ends_in, measured, pins_in, seen_of}
 use Rattle.span_meter.specs.Assumed.{spoken_seen}
 use Rattle.span_meter.specs.Events.{SpanEvents, events_in, is_any_selective, is_selective, marks}
+use Rattle.span_meter.specs.SeenText.{seen_line}
 use Rattle.span_meter.specs.Meters.{HasMeasured, Meters, first_told, seen_so_far, watched}
 use Rattle.span_meter.specs.Spoken.{spoken}
 use Rattle.span_meter.specs.SpokenMeters.{HasSpoken, SpokenMeters, spoken_so_far, spoken_told}
@@ -15,11 +16,10 @@ use Rattle.block_core.specs.Block.{Run}
 use Rattle.block_core.specs.Conduct.{conducts}
 use Rattle.block_core.specs.Hosted.{samples}
 use Rattle.commands.specs.declared.metered.Metered.{Metered}
-use Rattle.commands.specs.Metered.{seen_of_each}
+use Rattle.commands.specs.Metered.{seen_of_each, seen_lines}
 use Rattle.commands.specs.Tasks.{measured_text, seen_in}
-use Rattle.commands.specs.Lines.{seen_lines}
 use Rattle.span_meter.proofs.PlainSpans.{all_spoken, plain_assumes}
-use Rattle.commands.proofs.SeenLines.{lines_of_each}
+use Rattle.commands.proofs.SpanLines.{lines_of-each}
 
 -- a fresh meter names its pins and its edges
 pub names : (pins : ShownPins) (ends : List SpanEdges) (t : Meters) → HasMeasured pins ends [] t → first_told t.first (watched t.meters) ≡ first_told pins ends
@@ -94,4 +94,4 @@ pub lines_are_text : (start : Run) (spans slice : List Span) (lines : List Line)
     → seen_lines slice (seen_of_each t) ≡ measured_text start spans lines clocks
 unfolding measured_text
 lines_are_text start spans slice lines clocks t seen all =
-    ap₂ seen_lines all seen ∙ lines_of_each (λ sp. seen_in start sp lines clocks) spans
+    ap₂ seen_lines all seen ∙ lines_of-each (λ sp s. seen_line sp.name s) (λ sp. seen_in start sp lines clocks) spans

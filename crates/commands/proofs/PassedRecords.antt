@@ -44,9 +44,11 @@ no_fault (Some (fault.Flaw place name flaw)) is = cc
 no_fault (Some fault.Out) is = cc
 no_fault (Some fault.Memory) is = cc
 
--- a call without a fault kept the promise of the command that its words want
-pub kept : (words : List Text) (c : Call) (a : Asked) → wanted words ≡ Some a → EndsAs words c None → Passes c a
-kept words c a asked ends = subst (λ (o : Option Asked). Ends o c None) asked ends
+-- a call with status 0 kept the promise of the command that its words want
+pub kept : (words : List Text) (c : Call) (a : Asked) (found : Option Fault) → wanted words ≡ Some a → EndsAs words c found → status_of found ≡ 0
+    → Passes c a
+kept words c a found asked ends is =
+    subst (λ (o : Option Asked). Ends o c None) asked (subst (λ (f : Option Fault). EndsAs words c f) (no_fault found is) ends)
 
 -- what known files give: the text of the task was taken, what it needs of spans is met, and they hold in every run
 abbrev Done : Call → Judged Task → Type 0

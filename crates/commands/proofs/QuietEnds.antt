@@ -17,7 +17,7 @@ use Rattle.command_line.specs.Words.{Asked, table, WordsAreTaken}
 use Rattle.stages.specs.Judged.{Judged, right, wrong, IfRight}
 use Rattle.stages.specs.Spans.{IsFirstRefused}
 use Rattle.stages.specs.Stages.{HasSuch}
-use Rattle.commands.specs.Tasks.{Task, listing, trace, twin_trace, verdicts, tabled, rechecked, judge, file_in, HasText, HasLongText}
+use Rattle.commands.specs.Tasks.{Task, listing, trace, twin_trace, verdicts, tabled, rechecked, judge, file_in, ComesTo, HasText, HasLongText}
 use Rattle.commands.specs.Needs.{IsMet, IsNamedAt, IsRefusedBy, IsSecondRefusedBy, IsFlawed}
 use Rattle.commands.specs.Outside.{Call}
 use Rattle.commands.specs.Promise.{Ends, EndsTooLong}
@@ -67,9 +67,15 @@ of_done c (rechecked u sp rows) h p = record {
   unproved = λ alone not. absurd (not p.closed p.good);
 }
 
-of_right : (c : Call) (j : Judged Task) → IfRight j (TookText c) → IfRight j IsMet → EndsByFiles c j None
-of_right c (right task) h p = of_done c task h p
-of_right c (wrong e) h p = absurd h
+-- what decides by each task decides by the files that come to one
+by_task : (c : Call) (f : Files) (a : Asked) (P Q : Task → Type 0) (found : Option Fault) → c.files ≡ Some f → ComesTo c a P → ComesTo c a Q
+    → ((task : Task) → P task → Q task → EndsByTask c task found) → EndsByFiles c (judge f a) found
+by_task c f a P Q found told p q ends =
+    on (judge f a) (of_told (λ g. IfRight (judge g a) P) c.files f told p) (of_told (λ g. IfRight (judge g a) Q) c.files f told q)
+  where
+    on : (j : Judged Task) → IfRight j P → IfRight j Q → EndsByFiles c j found
+    on (right task) p q = ends task p q
+    on (wrong e) p q = absurd p
 
 -- a span is named by its own name
 own_name : (u : Setup) (sp : Span) (place : ℕ) (name : List ℕ) → IsNamedAt u sp place name → IsNamedAt u sp place sp.name
@@ -109,10 +115,6 @@ of_first c (rechecked u sp rows) place name (Shared m) h = record {
   unproved = λ alone not. absurd (not_shared u sp m alone h.1);
 }
 
-of_refused : (c : Call) (j : Judged Task) (place : ℕ) (name : List ℕ) (r : Refusal) → IfRight j (λ task. IsRefusedBy task place name r) → EndsByFiles c j (Some (fault.Unproved place name r))
-of_refused c (right task) place name r h = of_first c task place name r h
-of_refused c (wrong e) place name r h = absurd h
-
 -- the first span of the second block that isn't provable
 of_second : (c : Call) (task : Task) (place : ℕ) (name : List ℕ) (r : Refusal) → IsSecondRefusedBy task place name r → EndsByTask c task (Some (fault.SecondUnproved place name r))
 of_second c (twin_trace s t text) place name r h = record {
@@ -121,10 +123,6 @@ of_second c (twin_trace s t text) place name r h = record {
   second_unprovable = λ all not. record { place = place; name = name; refusal = r; fault = refl; first = h.1 };
 }
 of_second c task place name r h = absurd h
-
-of_second_refused : (c : Call) (j : Judged Task) (place : ℕ) (name : List ℕ) (r : Refusal) → IfRight j (λ task. IsSecondRefusedBy task place name r) → EndsByFiles c j (Some (fault.SecondUnproved place name r))
-of_second_refused c (right task) place name r h = of_second c task place name r h
-of_second_refused c (wrong e) place name r h = absurd h
 
 -- the first flaw of a table
 of_flaw : (c : Call) (task : Task) (place : ℕ) (name : List ℕ) (flaw : Flaw) → IsFlawed task place name flaw → EndsByTask c task (Some (fault.Flaw place name flaw))
@@ -141,10 +139,6 @@ of_flaw c (rechecked u sp rows) place name flaw h = record {
 }
 of_flaw c task place name flaw h = absurd h
 
-of_flawed : (c : Call) (j : Judged Task) (place : ℕ) (name : List ℕ) (flaw : Flaw) → IfRight j (λ task. IsFlawed task place name flaw) → EndsByFiles c j (Some (fault.Flaw place name flaw))
-of_flawed c (right task) place name flaw h = of_flaw c task place name flaw h
-of_flawed c (wrong e) place name flaw h = absurd h
-
 -- a fault of the files
 of_wrong : (c : Call) (j : Judged Task) (e : Fault) → j ≡ wrong e → EndsByFiles c j (Some e)
 of_wrong c j e h = subst (λ (k : Judged Task). EndsByFiles c k (Some e)) (sym h) refl
@@ -158,15 +152,10 @@ long_task : (c : Call) (task : Task) → HasLongText task → IsMet task → End
 long_task c (tabled u sp) h p = record { provable = λ here. inr (refl, h); unprovable = λ not. absurd (not p) }
 long_task c task h p = absurd h
 
-of_long : (c : Call) (j : Judged Task) → IfRight j HasLongText → IfRight j IsMet → EndsByFiles c j (Some (fault.TooLong file.Table))
-of_long c (right task) h p = long_task c task h p
-of_long c (wrong e) h p = absurd h
-
 -- a file is too long, or the text of a table
 of_too_long : (c : Call) (f : Files) (a : Asked) (role : File) → c.files ≡ Some f → EndsTooLong a c role → EndsByFiles c (judge f a) (Some (fault.TooLong role))
 of_too_long c f (table source config name) file.Table told h =
-    of_long c (judge f (table source config name)) (of_told (λ g. IfRight (judge g (table source config name)) HasLongText) c.files f told h.text)
-    (of_told (λ g. IfRight (judge g (table source config name)) IsMet) c.files f told h.spans)
+    by_task c f (table source config name) _ _ _ told h.text h.spans (λ task long met. long_task c task long met)
 of_too_long c f a role told h = of_faulty c f a (fault.TooLong role) told h.judged
 
 -- a failed fetch raises the count
@@ -176,19 +165,17 @@ failed_rose (Some n) before after h = subst (λ (a : Faults). Rose before.count 
 
 -- how a quiet call ends whose words ask for this, or for nothing
 ends_by_files : (asked : Option Asked) (c : Call) (f : Files) (found : Option Fault) → Ends asked c found → c.files ≡ Some f → found ≢ Some fault.Usage → found ≢ Some fault.Memory → (Rose c.shelf_before.count c.shelf_after.count → ⊥) → (Rose c.out_before.faults c.out_after.faults → ⊥) → HasSuch asked (λ a. EndsByFiles c (judge f a) found)
-ends_by_files (Some a) c f None h told usage memory shelf out =
-    of_right c (judge f a) (of_told (λ g. IfRight (judge g a) (TookText c)) c.files f told h.writes.text)
-    (of_told (λ g. IfRight (judge g a) IsMet) c.files f told h.spans)
+ends_by_files (Some a) c f None h told usage memory shelf out = by_task c f a _ _ _ told h.writes.text h.spans (λ task took met. of_done c task took met)
 ends_by_files asked c f (Some fault.Usage) h told usage memory shelf out = absurd (usage refl)
 ends_by_files asked c f (Some fault.Memory) h told usage memory shelf out = absurd (memory refl)
 ends_by_files (Some a) c f (Some (fault.Shelf role)) h told usage memory shelf out =
     absurd (shelf (failed_rose (file_in a role) c.shelf_before c.shelf_after h.named))
 ends_by_files (Some a) c f (Some (fault.Unproved place name r)) h told usage memory shelf out =
-    of_refused c (judge f a) place name r (of_told (λ g. IfRight (judge g a) (λ task. IsRefusedBy task place name r)) c.files f told h.first)
+    by_task c f a _ _ _ told h.first h.first (λ task p q. of_first c task place name r p)
 ends_by_files (Some a) c f (Some (fault.SecondUnproved place name r)) h told usage memory shelf out =
-    of_second_refused c (judge f a) place name r (of_told (λ g. IfRight (judge g a) (λ task. IsSecondRefusedBy task place name r)) c.files f told h.first)
+    by_task c f a _ _ _ told h.first h.first (λ task p q. of_second c task place name r p)
 ends_by_files (Some a) c f (Some (fault.Flaw place name flaw)) h told usage memory shelf out =
-    of_flawed c (judge f a) place name flaw (of_told (λ g. IfRight (judge g a) (λ task. IsFlawed task place name flaw)) c.files f told h.first)
+    by_task c f a _ _ _ told h.first h.first (λ task p q. of_flaw c task place name flaw p)
 ends_by_files (Some a) c f (Some fault.Out) h told usage memory shelf out = absurd (out h.rose)
 ends_by_files (Some a) c f (Some (fault.TooLong role)) h told usage memory shelf out = of_too_long c f a role told h
 ends_by_files (Some a) c f (Some e) h told usage memory shelf out = of_faulty c f a e told h.judged

@@ -12,6 +12,5 @@ pub mod Written
 pub mod Passed
 pub mod Does
 pub mod Tables
-pub mod Lines
 pub mod Metered
 pub mod Whole

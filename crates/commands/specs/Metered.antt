@@ -1,8 +1,11 @@
--- What a meter of either kind says.
-use Rattle.std.specs.Prelude.{List}
+-- What a meter of either kind says, and its lines.
+use Rattle.std.specs.Prelude.{ℕ, List}
+use Rattle.pin_matrix.specs.declared.span.Span.{Span}
 use Rattle.span_meter.specs.declared.seen.SeenDistances.{SeenDistances}
+use Rattle.span_meter.specs.SeenText.{seen_line}
 use Rattle.span_meter.specs.Meters.{seen_so_far}
 use Rattle.span_meter.specs.SpokenMeters.{spoken_so_far}
+use Rattle.stages.specs.Spans.{lines_of}
 use Rattle.commands.specs.declared.metered.Metered.{Metered}
 use Rattle.commands.specs.declared.metered.Metered.TheVariants.{Plain, Spoken}
 
@@ -10,3 +13,7 @@ use Rattle.commands.specs.declared.metered.Metered.TheVariants.{Plain, Spoken}
 abbrev pub seen_of_each : Metered → List SeenDistances
 seen_of_each (Plain meter) = seen_so_far meter
 seen_of_each (Spoken meter) = spoken_so_far meter
+
+-- the line of what each span has measured
+abbrev pub seen_lines : List Span → List SeenDistances → List ℕ
+seen_lines spans seen = lines_of (λ sp s. seen_line sp.name s) spans seen

@@ -83,7 +83,8 @@ fn put_line<O: Sink>(
     span: &Span,
     found: &Result<Finding, Refusal>,
 ) -> Result<(), SinkFailed>
-    ensures bytes { Takes (O.taken out.old) (verdict_line [] span.now.name found.now) (O.taken out.new) result }
+    ensures bytes { Takes (O.taken out.old) (verdict_line [] span.now.name found.now)
+        (O.taken out.new) result }
     ensures cause { PutCounts (O.faults out.old) (O.faults out.new) result }
 {
     put_verdict(out, &span.name, found)

@@ -24,7 +24,8 @@ use span_texts::{a_least_table_is_told, a_table_is_read_back};
 
 /// What `table` writes of a span is a table file whose table is closed and good, as `recheck` asks of it.
 pub fn a_written_table_is_a_proof()
-    ensures { (u : Setup) (sp : Span) (rows : List Row) → (followed sp).x < 2 ^ 16 → (followed sp).y < 2 ^ 16 → IsGoodLeast u sp rows
+    ensures { (u : Setup) (sp : Span) (rows : List Row)
+        → (followed sp).x < 2 ^ 16 → (followed sp).y < 2 ^ 16 → IsGoodLeast u sp rows
         → (table_of (followed sp) (table_text rows) ≡ Ok rows) × (IsClosed u sp rows × IsGood u sp rows) }
 {
     a_least_table_is_told();

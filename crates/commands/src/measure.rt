@@ -117,7 +117,8 @@ fn plain<F: Fifo, L: Ledger>(
 ) -> Result<SpanMeter, AllocError>
     requires fresh { block.run.clock ≡ 0 }
     requires within { clocks ≤ 10 ^ 12 }
-    ensures measured { IfOk result (λ meter. HasMeasured pins (map ends_in setup.now.spans) (samples block.run schedule.now clocks) meter) }
+    ensures measured { IfOk result (λ meter. HasMeasured pins (map ends_in setup.now.spans)
+        (samples block.run schedule.now clocks) meter) }
     ensures steps { steps.new ≤ steps.old + worked_in block.run schedule.now clocks }
 {
     let mut meter = SpanMeter::new(alloc, setup.spans.as_slice(), pins)?;
@@ -139,7 +140,8 @@ fn spoken<'a, F: Fifo, L: Ledger>(
 ) -> Result<SpokenMeter<'a>, AllocError>
     requires fresh { block.run.clock ≡ 0 }
     requires within { clocks ≤ 10 ^ 12 }
-    ensures spoken { IfOk result (λ meter. HasSpoken pins (map events_in setup.now.spans) (conducts block.run schedule.now clocks) meter) }
+    ensures spoken { IfOk result (λ meter. HasSpoken pins (map events_in setup.now.spans)
+        (conducts block.run schedule.now clocks) meter) }
     ensures steps { steps.new ≤ steps.old + worked_in block.run schedule.now clocks }
 {
     let mut meter = SpokenMeter::new(alloc, setup.spans.as_slice(), pins)?;

@@ -1,8 +1,7 @@
 //! The lines of what was measured of spans.
 ghost use Rattle.std.specs.Prelude.{◌≡◌, length};
 ghost use Rattle.commands.specs.Written.{SinkWrites};
-ghost use Rattle.commands.specs.Lines.{seen_lines};
-ghost use Rattle.commands.specs.Metered.{seen_of_each};
+ghost use Rattle.commands.specs.Metered.{seen_lines, seen_of_each};
 ghost use Rattle.pio_edge.specs.Edge.{PutCounts, Takes};
 ghost use Rattle.span_meter.specs.SeenText.{seen_line};
 
@@ -31,7 +30,8 @@ pub(crate) fn write_lines<O: Sink>(
 /// Puts the lines of what a meter of these spans has measured.
 fn put_lines<O: Sink>(out: &mut O, spans: &[Span], meter: &Metered) -> Result<(), SinkFailed>
     requires { length (seen_of_each meter.now) ≡ length spans.now }
-    ensures bytes { Takes (O.taken out.old) (seen_lines spans.now (seen_of_each meter.now)) (O.taken out.new) result }
+    ensures bytes { Takes (O.taken out.old) (seen_lines spans.now (seen_of_each meter.now))
+        (O.taken out.new) result }
     ensures cause { PutCounts (O.faults out.old) (O.faults out.new) result }
 {
     for place in 0..spans.len() {

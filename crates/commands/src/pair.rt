@@ -52,7 +52,8 @@ fn write_pair<O: Sink, L: Ledger>(
 ) -> Result<(), Fault>
     requires { clocks ≤ 10 ^ 12 }
     ensures ends { SinkWrites O.Sink out.old out.new
-        (twin_trace_text (twin_start blocks.now) blocks.now.first_lines blocks.now.second_lines clocks) result }
+        (twin_trace_text (twin_start blocks.now) blocks.now.first_lines blocks.now.second_lines clocks)
+        result }
     ensures steps { steps.new ≤ steps.old
         + twin_worked_in (twin_start blocks.now) blocks.now.first_lines blocks.now.second_lines clocks }
 {

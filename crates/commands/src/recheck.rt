@@ -61,8 +61,8 @@ fn tell_recheck<O: Sink>(
     requires configured { IsSome (slice_index_or setup.now.machines span.now.machine None) }
     requires named { IsNamedAt setup.now span.now place span.now.name }
     requires follow { table.now.follow ≡ followed span.now }
-    ensures { Does (rechecked setup.now span.now table.now.rows) (output_by O.Sink out.old) (output_by O.Sink out.new)
-        result }
+    ensures { Does (rechecked setup.now span.now table.now.rows)
+        (output_by O.Sink out.old) (output_by O.Sink out.new) result }
 {
     if let Some(machine) = shared_by(setup, span) {
         return Err(unproved(alloc, place, span, Refusal::Shared(machine)));
@@ -82,7 +82,8 @@ fn first_flaw(setup: &Setup, span: &Span, table: &Table) -> Option<Flaw>
     requires configured { IsSome (slice_index_or setup.now.machines span.now.machine None) }
     requires alone { IsUnshared setup.now span.now }
     requires follow { table.now.follow ≡ followed span.now }
-    ensures { MatchOption result (IsProvedBy setup.now span.now table.now.rows × HoldsInEveryRun setup.now span.now)
+    ensures { MatchOption result
+        (IsProvedBy setup.now span.now table.now.rows × HoldsInEveryRun setup.now span.now)
         (λ found. HasFlaw setup.now span.now table.now.rows found) }
 {
     a_provable_span_holds_in_every_run();

@@ -44,7 +44,8 @@ pub fn piotool<F: Shelf, O: Sink, E: Sink, L: Ledger>(
 ) -> Ended
     ensures ends { EndsAs (map string_bytes words.now)
         (call_by F.Shelf O.Sink shelf.old shelf.new out.old out.new) result.fault }
-    ensures asked { CallAsks (map string_bytes words.now) (F.fetched shelf.old) (F.fetched shelf.new) result.fault }
+    ensures asked { CallAsks (map string_bytes words.now) (F.fetched shelf.old) (F.fetched shelf.new)
+        result.fault }
     ensures complete { FilesDecide (map string_bytes words.now)
         (call_by F.Shelf O.Sink shelf.old shelf.new out.old out.new) result.fault }
     ensures taken { WordsAreTaken (map string_bytes words.now) → result.fault ≢ Some Fault.Usage }

@@ -58,7 +58,8 @@ fn send_bytes<O: Sink, L: Ledger>(
     requires some { 1 ≤ divider }
     requires most { divider ≤ 8191 }
     ensures ends { SinkWrites O.Sink out.old out.new (sent_text divider bytes.now clocks) result }
-    ensures steps { steps.new ≤ steps.old + worked_in (first_run (transmitter_of divider)) (fed bytes.now) clocks }
+    ensures steps { steps.new ≤ steps.old
+        + worked_in (first_run (transmitter_of divider)) (fed bytes.now) clocks }
 {
     a_transmitter_sends_this_text();
     let schedule = feed(alloc, bytes)?;

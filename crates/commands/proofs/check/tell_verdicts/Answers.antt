@@ -1,7 +1,7 @@
 use Rattle.std.proofs.Common.{ap₂}
 use Rattle.std.proofs.lemmas.Result.{err_from_is_err_and}
 use Rattle.stages.specs.Spans.{verdict_text}
-use Rattle.commands.proofs.VerdictText.{as_many}
+use Rattle.commands.proofs.SpanLines.{as_many}
 use Rattle.commands.proofs.TaskDone.{verdicts_fail, verdicts_end}
 use Rattle.commands.proofs.check.tell_verdicts.Goals as goal
 

@@ -1,7 +1,6 @@
 use Rattle.std.proofs.Common.{◌≡◌, drop}
 use Rattle.pio_edge.specs.Puts.{Going}
-use Rattle.commands.specs.Metered.{seen_of_each}
-use Rattle.commands.specs.Lines.{seen_lines}
+use Rattle.commands.specs.Metered.{seen_lines, seen_of_each}
 use Rattle.commands.proofs.measured_lines.put_lines.Given as goal
 
 -- the lines before this place were taken
