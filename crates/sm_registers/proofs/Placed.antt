@@ -1,19 +1,11 @@
 -- That a tick keeps PC, the counts and the delay in their ranges.
-use Rattle.std.proofs.Common.{ℕ, ◌+◌, ◌-◌, ◌/◌, ◌%◌, ◌^◌, ◌<◌, ◌≤◌, ◌==◌, nat_lt, nat_le, min, Bool, true, false, cond, ◌&&◌, Option, Some, None, IfSome, is_some, rules, arith}
+use Rattle.std.proofs.Common.{ℕ, ◌+◌, ◌-◌, ◌/◌, ◌%◌, ◌^◌, ◌<◌, ◌≤◌, ◌==◌, nat_lt, nat_le, Bool, true, false, cond, ◌&&◌, Option, Some, None, IfSome, is_some, rules, arith}
 use Rattle.std.proofs.lemmas.Nat.{mod_below, pow_pos}
 use Rattle.std.proofs.Math.Pow.{pow_mono}
 use Rattle.pio_encode.specs.declared.act.Act.{Act}
-use Rattle.pio_encode.specs.declared.act.Act.TheVariants.{Jmp, Wait, In, Out, Push, Pull, Mov, Irq, Set, Nothing}
-use Rattle.pio_encode.specs.declared.act.Condition.{Condition}
-use Rattle.pio_encode.specs.declared.act.Condition.TheVariants as condition
-use Rattle.pio_encode.specs.declared.act.OutDestination.{OutDestination}
-use Rattle.pio_encode.specs.declared.act.OutDestination.TheVariants as out_destination
 use Rattle.pio_encode.specs.declared.act.MovDestination.{MovDestination}
-use Rattle.pio_encode.specs.declared.act.MovDestination.TheVariants as mov_destination
 use Rattle.pio_encode.specs.declared.act.MovOperation.{MovOperation}
 use Rattle.pio_encode.specs.declared.act.MovSource.{MovSource}
-use Rattle.pio_encode.specs.declared.act.SetDestination.{SetDestination}
-use Rattle.pio_encode.specs.declared.act.SetDestination.TheVariants as set_destination
 use Rattle.pio_encode.specs.declared.rule.SideRule.{SideRule}
 use Rattle.pio_encode.specs.Ranges.{IsInRange, delay_bits}
 use Rattle.pio_encode.specs.Word.{bits, count_at, act_of, wait_at, in_at, push_or_pull_at, mov_with, mov_at, irq_at, set_at, reading_of, delay_of}
@@ -22,8 +14,9 @@ use Rattle.sm_registers.specs.declared.registers.Registers.{Registers}
 use Rattle.sm_registers.specs.View.{View}
 use Rattle.sm_registers.specs.Queues.{Queues}
 use Rattle.sm_registers.specs.Ranges.{IsPlaced}
-use Rattle.sm_registers.specs.Effects.{Effect, counted_down, jmp_effect, wait_effect, in_effect, autopushed, with_bits_in, with_bits_out, out_to, out_effect, push_effect, pulled, pull_effect, mov_to, mov_effect, irq_effect, set_effect, effect_of, in_word, jumps}
+use Rattle.sm_registers.specs.Effects.{Effect}
 use Rattle.sm_registers.specs.Tick.{current_word, next_pc, pc_after, delay_after, after_effect, osr_filled_from, refilled, tick_delay, tick_by, tick_word, tick_of}
+use Rattle.sm_registers.proofs.Effects.{Does, does}
 
 -- an act whose operands are in their ranges
 pub record IsRanged (act : Act) : Type 0 where
@@ -85,96 +78,9 @@ delay_fits rule field =
     let power : 2 ^ n ≤ 2 ^ 5 = pow_mono most in
     omega (arith, below, power)
 
--- an effect keeps PC, the counts and the delay in their ranges
-pub record IsPlacedEffect (e : Effect) : Type 0 where
-  pub registers : IsPlaced e.registers
-  pub jump : IfSome e.jump (λ a. a < 32)
-
-placed_if : (b : Bool) (x y : Effect) → IsPlacedEffect x → IsPlacedEffect y → IsPlacedEffect (cond b x y)
-placed_if true x y h k = h
-placed_if false x y h k = k
-
 kept_if : (b : Bool) (x y : Registers) → IsPlaced x → IsPlaced y → IsPlaced (cond b x y)
 kept_if true x y h k = h
 kept_if false x y h k = k
-
-jump_if : (b : Bool) (a : ℕ) → a < 32 → IfSome (cond b (Some a) None) (λ a. a < 32)
-jump_if true a h = h
-jump_if false a h = tt
-
-min_fits : (n : ℕ) → min 32 n ≤ 32
-min_fits n = omega arith
-
-kept_counted_down : (c : Condition) (r : Registers) → IsPlaced r → IsPlaced (counted_down c r)
-kept_counted_down condition.Always r h = h
-kept_counted_down condition.XZero r h = h
-kept_counted_down condition.XDecrement r h = search rules
-kept_counted_down condition.YZero r h = h
-kept_counted_down condition.YDecrement r h = search rules
-kept_counted_down condition.XNotY r h = h
-kept_counted_down condition.Pin r h = h
-kept_counted_down condition.OsrNotEmpty r h = h
-
-placed_autopushed : (s : MachineSetup) (q : Queues) (r : Registers) → IsPlaced r → IsPlacedEffect (autopushed s q r)
-placed_autopushed s q r h = search (rules, placed_if)
-
-placed_out_to :
-    (d : OutDestination) (value n : ℕ) (s : MachineSetup) (r : Registers) → n ≤ 32 → IsPlaced r → IsPlacedEffect (out_to d value n s r)
-placed_out_to out_destination.Pins value n s r k h = search rules
-placed_out_to out_destination.X value n s r k h = search rules
-placed_out_to out_destination.Y value n s r k h = search rules
-placed_out_to out_destination.Null value n s r k h = search rules
-placed_out_to out_destination.Pindirs value n s r k h = search rules
-placed_out_to out_destination.Pc value n s r k h = record { registers = h; jump = mod_below value 32 (omega arith) }
-placed_out_to out_destination.Isr value n s r k h = search rules
-placed_out_to out_destination.Exec value n s r k h = search rules
-
-placed_mov_to : (d : MovDestination) (value : ℕ) (s : MachineSetup) (r : Registers) → IsPlaced r → IsPlacedEffect (mov_to d value s r)
-placed_mov_to mov_destination.Pins value s r h = search rules
-placed_mov_to mov_destination.X value s r h = search rules
-placed_mov_to mov_destination.Y value s r h = search rules
-placed_mov_to mov_destination.Exec value s r h = search rules
-placed_mov_to mov_destination.Pc value s r h = record { registers = h; jump = mod_below value 32 (omega arith) }
-placed_mov_to mov_destination.Isr value s r h = search rules
-placed_mov_to mov_destination.Osr value s r h = search rules
-
-placed_pulled : (front : Option ℕ) (block : Bool) (r : Registers) → IsPlaced r → IsPlacedEffect (pulled front block r)
-placed_pulled None block r h = search (rules, placed_if)
-placed_pulled (Some word) block r h = search rules
-
-placed_jmp : (c : Condition) (a : ℕ) (s : MachineSetup) (v : View) (r : Registers) → a < 32 → IsPlaced r → IsPlacedEffect (jmp_effect c a s v r)
-unfolding jmp_effect
-placed_jmp c a s v r k h = record { registers = kept_counted_down c r h; jump = jump_if (jumps c s v r) a k }
-
-placed_set : (d : SetDestination) (value : ℕ) (s : MachineSetup) (r : Registers) → IsPlaced r → IsPlacedEffect (set_effect d value s r)
-unfolding set_effect
-placed_set set_destination.Pins value s r h = search rules
-placed_set set_destination.X value s r h = search rules
-placed_set set_destination.Y value s r h = search rules
-placed_set set_destination.Pindirs value s r h = search rules
-
-kept_bits_in : (word n : ℕ) (s : MachineSetup) (r : Registers) → IsPlaced r → IsPlaced (with_bits_in word n s r)
-kept_bits_in word n s r h = search (rules, min_fits)
-
-kept_bits_out : (n : ℕ) (s : MachineSetup) (r : Registers) → IsPlaced r → IsPlaced (with_bits_out n s r)
-kept_bits_out n s r h = search (rules, min_fits)
-
-placed_effect :
-    (a : Act) (s : MachineSetup) (v : View) (q : Queues) (r : Registers) → IsInRange a → IsPlaced r → IsPlacedEffect (effect_of a s v q r)
-unfolding effect_of wait_effect in_effect out_effect push_effect pull_effect mov_effect irq_effect
-placed_effect (Jmp c a) s v q r k h = placed_jmp c a s v r k h
-placed_effect (Wait polarity source index) s v q r k h = search (rules, placed_if)
-placed_effect (In source n) s v q r k h =
-    placed_autopushed s q _ (kept_if r.begun r _ h (kept_bits_in (in_word source s v r) n s r h))
-placed_effect (Out d n) s v q r k h =
-    let few : n ≤ 32 = k.1 in search (rules, placed_if, placed_out_to, kept_bits_out)
-placed_effect (Push if_full block) s v q r k h = search (rules, placed_if) depth 20
-placed_effect (Pull if_empty block) s v q r k h =
-    search (rules, placed_if, placed_pulled)
-placed_effect (Mov d o source) s v q r k h = placed_mov_to d _ s r h
-placed_effect (Irq clear waits index) s v q r k h = search (rules, placed_if) depth 20
-placed_effect (Set d value) s v q r k h = placed_set d value s r h
-placed_effect Nothing s v q r k h = search rules
 
 next_is_placed : (s : MachineSetup) (r : Registers) → next_pc s r < 32
 next_is_placed s r =
@@ -194,17 +100,20 @@ delay_is_placed : (pending : Option ℕ) (delay : ℕ) → delay < 32 → delay_
 delay_is_placed (Some word) delay h = omega arith
 delay_is_placed None delay h = h
 
+-- an effect keeps PC, the counts and the delay in their ranges, and so does what comes after it
 placed_after :
-    (delay : ℕ) (s : MachineSetup) (r : Registers) (e : Effect) → delay < 32 → IsPlaced r → IsPlacedEffect e → IsPlaced (after_effect delay s r e)
+    (delay : ℕ) (a : Act) (s : MachineSetup) (v : View) (q : Queues) (r : Registers) (e : Effect) → delay < 32 → IsInRange a → IsPlaced r
+    → Does a s v q r e → IsPlaced (after_effect delay s r e)
 unfolding after_effect
-placed_after delay s r e d h k =
-    let in_place : IsPlaced e.registers = k.registers in
+placed_after delay a s v q r e d range h k =
+    let in_count = k.in_fits range h.in_count in
+    let out_count = k.out_fits h.out_count in
     kept_if e.stalled _ _
-    (record { pc = in_place.pc; in_count = in_place.in_count; out_count = in_place.out_count; delay = in_place.delay })
+    (record { pc = omega (arith, k.pc, h.pc); in_count = in_count; out_count = out_count; delay = omega (arith, k.delay, h.delay) })
     (record {
-      pc = pc_is_placed e.jump (is_some r.pending) s r k.jump h.pc;
-      in_count = in_place.in_count;
-      out_count = in_place.out_count;
+      pc = pc_is_placed e.jump (is_some r.pending) s r (k.target range) h.pc;
+      in_count = in_count;
+      out_count = out_count;
       delay = delay_is_placed e.pending delay d;
     })
 
@@ -220,9 +129,9 @@ pub placed_tick : (s : MachineSetup) (v : View) (q : Queues) (r : Registers) →
 unfolding tick_of tick_delay tick_word tick_by reading_of
 placed_tick s v q r h =
     let word : ℕ = current_word v r in
-    let effect : IsPlacedEffect (effect_of (act_of word) s v q r) = placed_effect (act_of word) s v q r (ranged_word word).range h in
+    let does = does (act_of word) s v q r in
     elim (nat_lt 0 r.delay) as (λ b. IsPlaced (cond b (tick_delay s q r) (tick_word (reading_of word s.side_rule) s v q r)).0) [
       | true ↦ placed_refilled s q (record r { delay = r.delay - 1 })
           (record { pc = h.pc; in_count = h.in_count; out_count = h.out_count; delay = omega (arith, h.delay) })
-      | false ↦ placed_refilled s q _ (placed_after _ s r _ (delay_fits s.side_rule (bits word 8 5)) h effect)
+      | false ↦ placed_refilled s q _ (placed_after _ (act_of word) s v q r _ (delay_fits s.side_rule (bits word 8 5)) (ranged_word word).range h does)
     ]

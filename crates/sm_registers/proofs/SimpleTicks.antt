@@ -29,7 +29,7 @@ use Rattle.sm_registers.specs.Simple.{MakesTick, is_ready, is_simple, never_wait
 use Rattle.sm_registers.specs.State.{MachineState, queues_of}
 use Rattle.sm_registers.specs.Tick.{after_effect, current_word, next_after, pc_after, refills, side_writes, tick_by, tick_of, tick_word, word_at}
 use Rattle.sm_registers.proofs.Calm.{delay_counts, unmet_waits}
-use Rattle.sm_registers.proofs.OwnPins.{OwnEffect, own_effect}
+use Rattle.sm_registers.proofs.Effects.{does}
 use Rattle.sm_registers.proofs.Placed.{placed_tick}
 
 -- a tick is made, where it leaves these registers and pins, and wants nothing else
@@ -139,7 +139,7 @@ pub end_writes :
     (after : Registers) (end : End) (a : Act) (s : MachineSetup) (v : View) (q : Queues) (r : Registers) → effect_by after no_intent end ≡ effect_of a s v q r
     → IsWrite (end_level end) × IsWrite (end_direction end)
 end_writes after end a s v q r h =
-    let own : OwnEffect s (effect_of a s v q r) = own_effect a s v q r in
+    let own = does a s v q r in
     let is = is_end after no_intent end in (
       subst IsWrite (sym (ap (λ (e : Effect). e.level) h) ∙ is.level) own.level.write,
       subst IsWrite (sym (ap (λ (e : Effect). e.direction) h) ∙ is.direction) own.direction.write,
