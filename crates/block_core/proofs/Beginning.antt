@@ -1,7 +1,7 @@
 -- A clock in which the pads change, or a machine begins an instruction, moves the block on.
 use Rattle.std.proofs.Common.{◌≡◌, ℕ, ◌==◌, Bool, true, false, not, ◌&&◌, ◌||◌, Option, Some, None, is_some, List, [], ◌∷◌, map, cond, refl, ap, sym, ◌∙◌, subst}
 use Rattle.std.specs.List.{list_any}
-use Rattle.std.proofs.lemmas.Bool.{and_parts, or_left, or_right}
+use Rattle.std.proofs.lemmas.Bool.{and_from, and_parts, or_left, or_right}
 use Rattle.pin_matrix.specs.declared.machine.MachineSetup.{MachineSetup}
 use Rattle.sm_registers.specs.declared.registers.Registers.{Registers}
 use Rattle.sm_registers.specs.View.{View}
@@ -97,11 +97,7 @@ ready_begins s h =
     let r = s.machine.registers in
     let parts = and_parts (has_tick s) (simple.is_ready s.machine.setup r) h in
     let rests = and_parts (r.delay == 0) (not r.begun && not (is_some r.pending)) (and_parts (not s.machine.setup.autopull) ((r.delay == 0) && (not r.begun && not (is_some r.pending))) parts.1).1 in
-    and_true (has_tick s) (begins_next r) parts.0 (and_true (r.delay == 0) (not r.begun) rests.0 (and_parts (not r.begun) (not (is_some r.pending)) rests.1).0)
-  where
-    and_true : (a b : Bool) → a ≡ true → b ≡ true → (a && b) ≡ true
-    and_true true b h k = k
-    and_true false b h k = cc
+    and_from (has_tick s) (begins_next r) parts.0 (and_from (r.delay == 0) (not r.begun) rests.0 (and_parts (not r.begun) (not (is_some r.pending)) rests.1).0)
 
 pub first_begins : (place : Option Slot) (others : List (Option Slot)) → is_ready place ≡ true → list_any begins_now (place ∷ others) ≡ true
 first_begins None others h = cc

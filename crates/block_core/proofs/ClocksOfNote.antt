@@ -203,22 +203,14 @@ calm_noted : (r : Run) → moves_on quiet r ≡ false → (next quiet r).state.l
 unfolding is_noted
 calm_noted r h levels directions = rw (calm_machines r h, levels, directions, same r.state.levels, same r.state.directions) refl
 
-leapt_levels : (n : ℕ) (r : Run) → (leapt n r).state.levels ≡ r.state.levels
-unfolding leapt
-leapt_levels n r = refl
-
-leapt_directions : (n : ℕ) (r : Run) → (leapt n r).state.directions ≡ r.state.directions
-unfolding leapt
-leapt_directions n r = refl
-
 pub none_noted : (r : Run) (clocks : ℕ) → ((k : ℕ) → k < clocks → moves_on quiet (run_from r (λ c. quiet) k) ≡ false) → ((k : ℕ) → k ≤ clocks → run_from r (λ c. quiet) k ≡ leapt k r) → (k : ℕ) → k < clocks → is_noted quiet (run_from r (λ c. quiet) k) ≡ false
-unfolding run_from
+unfolding run_from leapt
 none_noted r clocks calm rests k below =
     let now = rests k (omega arith) in
     let then = rests (suc k) (omega arith) in
     calm_noted (run_from r (λ c. quiet) k) (calm k below)
-    (ap (λ (x : Run). x.state.levels) then ∙ leapt_levels (suc k) r ∙ sym (ap (λ (x : Run). x.state.levels) now ∙ leapt_levels k r))
-    (ap (λ (x : Run). x.state.directions) then ∙ leapt_directions (suc k) r ∙ sym (ap (λ (x : Run). x.state.directions) now ∙ leapt_directions k r))
+    (ap (λ (x : Run). x.state.levels) then ∙ sym (ap (λ (x : Run). x.state.levels) now))
+    (ap (λ (x : Run). x.state.directions) then ∙ sym (ap (λ (x : Run). x.state.directions) now))
 
 -- what a block keeps of a clock that it worked out
 pub after-note : (d : Due) (w : Worked) (last now : Conduct) (t : Told) (clock : ℕ) (pins : ℕ × ℕ) (before : List (Option Standing)) (after : BlockState) (noted : Bool) → record { worked = w; last = last } ≡ t → t.worked.run.clock ≡ clock → pins ≡ (w.run.state.levels, w.run.state.directions) → before ≡ standings_in d w.run.state → after ≡ (next d w.run).state → noted ≡ is_noted_by clock pins.0 pins.1 before after → now ≡ cond noted (conduct_by clock before after) last → (noted ≡ is_noted d t.worked.run) × (now ≡ conduct_after d t.worked.run t.last)

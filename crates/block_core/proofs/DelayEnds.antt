@@ -1,5 +1,5 @@
 -- The clock in which the last tick of a delay comes, by the numbers of ticks.
-use Rattle.std.proofs.Common.{◌≡◌, ℕ, zero, suc, ◌+◌, ◌-◌, ◌*◌, ◌/◌, ◌<◌, max, Bool, true, false, IsTrue, ◌==◌, ◌&&◌, Option, Some, None, cond, nat_lt, nat_le, slice_index_or, refl, sym, ap, ◌∙◌, add-zero, arith}
+use Rattle.std.proofs.Common.{◌≡◌, ℕ, zero, suc, ◌+◌, ◌-◌, ◌*◌, ◌/◌, ◌<◌, max, Bool, true, false, IsTrue, ◌==◌, ◌&&◌, Option, Some, None, cond, nat_lt, slice_index_or, refl, sym, ap, ◌∙◌, add-zero, arith}
 use Rattle.std.proofs.lemmas.Bool.{or_parts}
 use Rattle.std.proofs.lemmas.Bool.Decides.{nat_tests}
 use Rattle.clock_divider.specs.Ticks.{is_tick, tick_count}
@@ -9,11 +9,12 @@ use Rattle.sm_registers.specs.declared.registers.Registers.{Registers}
 use Rattle.sm_registers.specs.Intents.{no_intent}
 use Rattle.sm_registers.specs.Queues.{Queues}
 use Rattle.sm_registers.specs.State.{queues_of}
-use Rattle.sm_registers.specs.Tick.{osr_filled_from, refilled, tick_delay, tick_of}
+use Rattle.sm_registers.specs.Tick.{tick_delay, tick_of}
 use Rattle.sm_registers.specs.View.{View}
 use Rattle.dreq_pacing.specs.declared.due.Due.{Due}
 use Rattle.block_core.specs.Conduct.{clock_of_tick, is_broken_by, is_lined_by, next_tick, period_in, rests_in}
 use Rattle.block_core.specs.Slots.{Slot, acted, has_tick, lined, settled_slot, slot_after}
+use Rattle.block_core.proofs.Insides.{refilled_keeps}
 use Rattle.block_core.proofs.TickNumbers.{clock_of, number, number_more}
 
 -- some clocks more: their ticks are counted
@@ -95,22 +96,10 @@ told_stays clock zero enabled t step delays = absurd (delays refl)
 told_stays clock (suc n) false t step delays = told_next clock (suc n - 0) n false t (omega arith) ∙ sym (told_left clock n false t)
 told_stays clock (suc n) true t step delays = told_on clock n t (is_tick t.restarted t.period t.clock) step refl ∙ sym (told_left clock n true t)
 
--- autopull leaves the delay
-filled_delay : (front : Option ℕ) (r : Registers) → (osr_filled_from front r).delay ≡ r.delay
-filled_delay None r = refl
-filled_delay (Some word) r = refl
-
-refilled_delay : (s : MachineSetup) (q : Queues) (r : Registers) → (refilled s q r).delay ≡ r.delay
-refilled_delay s q r =
-    elim (s.autopull && nat_le s.pull_threshold r.out_count) as (λ b. (cond b (osr_filled_from q.front r) r).delay ≡ r.delay) [
-      | true ↦ filled_delay q.front r
-      | false ↦ refl
-    ]
-
 -- a tick in a delay takes one of it
 tick_takes : (s : MachineSetup) (v : View) (q : Queues) (r : Registers) → nat_lt 0 r.delay ≡ true → (tick_of s v q r).0.delay ≡ r.delay - 1
 unfolding tick_of tick_delay
-tick_takes s v q r left = rw left (refilled_delay s q (record r { delay = r.delay - 1 }))
+tick_takes s v q r left = rw left (refilled_keeps (λ r. r.delay) (λ word r. refl) s q (record r { delay = r.delay - 1 }))
 
 clock_takes : (v : View) (s : Slot) → nat_lt 0 s.machine.registers.delay ≡ true → (acted v s).0.delay ≡ s.machine.registers.delay - cond (has_tick s) 1 0
 unfolding acted

@@ -31,37 +31,24 @@ places_leap : (memory : List ℕ) (n : ℕ) (places : List (Option Slot)) → ma
 places_leap memory n [] = refl
 places_leap memory n (place ∷ places) = rw (place_leaps memory n place, places_leap memory n places) refl
 
-places_leapt : (r : Run) (n : ℕ) → map (option_map (machine_inside r.memory)) (leapt n r).state.machines ≡ map (option_map (machine_inside r.memory)) r.state.machines
-unfolding leapt
-places_leapt r n = places_leap r.memory n r.state.machines
-
-memory_leaps : (r : Run) (n : ℕ) → (leapt n r).memory ≡ r.memory
-unfolding leapt
-memory_leaps r n = refl
-
-pads_leap : (r : Run) (n : ℕ) → (leapt n r).synchroniser ≡ r.synchroniser
-unfolding leapt
-pads_leap r n = refl
-
 pub inside_leaps : (r : Run) (n : ℕ) → inside_of (leapt n r) ≡ inside_of r
-unfolding inside_of
-inside_leaps r n = rw (sample_leaps r n, memory_leaps r n, pads_leap r n, places_leapt r n) refl
+unfolding inside_of leapt
+inside_leaps r n = rw (sample_leaps r n, places_leap r.memory n r.state.machines) refl
 
 pub pads_inside : (s : Setup) (host : ℕ → Due) (clock : ℕ) → (inside_of (run_at s host (suc clock))).pads ≡ pad_at s host clock
 unfolding inside_of run_from next
 pads_inside s host clock = refl
 
--- autopull leaves whether the instruction has begun
-filled_begun : (front : Option ℕ) (r : Registers) → (osr_filled_from front r).begun ≡ r.begun
-filled_begun None r = refl
-filled_begun (Some word) r = refl
-
-refilled_begun : (s : MachineSetup) (q : Queues) (r : Registers) → (refilled s q r).begun ≡ r.begun
-refilled_begun s q r =
-    elim (s.autopull && nat_le s.pull_threshold r.out_count) as (λ b. (cond b (osr_filled_from q.front r) r).begun ≡ r.begun) [
-      | true ↦ filled_begun q.front r
+-- autopull leaves what a word from TX leaves
+pub refilled_keeps : {T : Type 0} (of : Registers → T) → ((word : ℕ) (r : Registers) → of (osr_filled_from (Some word) r) ≡ of r) → (s : MachineSetup) (q : Queues) (r : Registers) → of (refilled s q r) ≡ of r
+refilled_keeps of keeps s q r =
+    elim (s.autopull && nat_le s.pull_threshold r.out_count) as (λ b. of (cond b (osr_filled_from q.front r) r) ≡ of r) [
+      | true ↦ elim q.front as (λ front. of (osr_filled_from front r) ≡ of r) [ None ↦ refl | Some word ↦ keeps word r ]
       | false ↦ refl
     ]
+
+refilled_begun : (s : MachineSetup) (q : Queues) (r : Registers) → (refilled s q r).begun ≡ r.begun
+refilled_begun = refilled_keeps (λ r. r.begun) (λ word r. refl)
 
 -- an instruction that stalls has begun, and one that finishes has not
 effect_begun : (delay : ℕ) (s : MachineSetup) (r : Registers) (e : Effect) → (after_effect delay s r e).begun ≡ e.stalled

@@ -1,5 +1,5 @@
 -- That the flags of a stall are up, of each place, clock after clock.
-use Rattle.std.proofs.Common.{◌≡◌, ℕ, true, false, Option, Some, None, option_map, List, [], ◌∷◌, map, cond, slice_index_or, bit_or, refl, ap, sym, subst}
+use Rattle.std.proofs.Common.{◌≡◌, ℕ, ◌+◌, true, false, Option, Some, None, option_map, List, [], ◌∷◌, map, cond, slice_index_or, bit_or, refl, ap, sym, subst}
 use Rattle.fifo_pair.specs.Fifos.{Fifos, is_over, is_under}
 use Rattle.pio_encode.specs.Word.{act_of}
 use Rattle.pin_matrix.specs.declared.machine.MachineSetup.{MachineSetup}
@@ -10,9 +10,10 @@ use Rattle.sm_registers.specs.State.{queues_of, settled_ports, told}
 use Rattle.sm_registers.specs.Tick.{word_at, tick_of}
 use Rattle.sm_registers.specs.StallFlags.{IsKnown, IsToldAct}
 use Rattle.dreq_pacing.specs.declared.due.Due.{Due}
-use Rattle.block_core.specs.Kept.{memory_alone, IsTold, AreTold}
+use Rattle.block_core.specs.Kept.{AreInStep, memory_alone, IsTold, AreTold}
 use Rattle.block_core.specs.Slots.{Slot, first_slot, lined, has_tick, acted, settled_slot, slot_after, place_after}
 use Rattle.block_core.specs.Leaps.{leapt_place}
+use Rattle.block_core.proofs.Steps.{in_step_after}
 
 -- what the law of ticks that tell nothing new says, as premises here
 abbrev pub TellsAfter : Type 0
@@ -58,6 +59,19 @@ place_told after more memory v d s t m h e = subst (IsTold memory) (sym e) (subs
   from : (s : Option Slot) → IsTold v.memory s → IsTold v.memory (place_after v d s)
   from None h = tt
   from (Some s) h = slot_told after more v d s h
+
+-- so all four places stay in step, with these flags up, over a clock
+pub all_in_step : TellsAfter → TellsMore → (memory : List ℕ) (clock : ℕ) (v : View) (d : Due) {a b c e s t u w : Option Slot} → v.memory ≡ memory → AreInStep memory clock a b c e → s ≡ place_after v d a → t ≡ place_after v d b → u ≡ place_after v d c → w ≡ place_after v d e → AreInStep memory (clock + 1) s t u w
+all_in_step after more memory clock v d m kept f g h i =
+    let told = kept.told in
+    let next = place_told after more memory v d in
+    record {
+      told = (next _ _ m told.0 f, (next _ _ m told.1.0 g, (next _ _ m told.1.1.0 h, (next _ _ m told.1.1.1.0 i, tt))));
+      first = in_step_after clock v d _ _ kept.first f;
+      second = in_step_after clock v d _ _ kept.second g;
+      third = in_step_after clock v d _ _ kept.third h;
+      fourth = in_step_after clock v d _ _ kept.fourth i;
+    }
 
 -- at the start no instruction has stalled
 pub first_told : (memory : List ℕ) (m : Option MachineSetup) (s : Option Slot) → s ≡ option_map first_slot m → IsTold memory s

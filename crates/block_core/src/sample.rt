@@ -29,7 +29,8 @@ impl Sample {
     /// Puts in the pins; all else stays. True where it is another sample then.
     #[inline(always)]
     pub(crate) fn show_pins(&mut self, outputs: &Outputs) -> bool
-        ensures after { self.new ≡ record self.old { level = outputs.now.levels; direction = outputs.now.directions } }
+        ensures after { self.new
+            ≡ record self.old { level = outputs.now.levels; direction = outputs.now.directions } }
         ensures same { result ≡ false → self.new ≡ self.old }
     {
         let same = both(self.level, self.direction) == both(outputs.levels, outputs.directions);

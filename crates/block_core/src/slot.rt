@@ -145,7 +145,8 @@ impl<F: Fifo> Slot<F> {
           machine = record self.old.machine { registers = (acted view.now self.old).0 };
         } }
         ensures take { IsTrue result.take → 0 < length self.new.machine.ports.fifos.tx }
-        ensures word { IsSome result.word → length self.new.machine.ports.fifos.rx < self.new.machine.ports.fifos.rx_room }
+        ensures word { IsSome result.word
+            → length self.new.machine.ports.fifos.rx < self.new.machine.ports.fifos.rx_room }
     {
         if self.has_tick() {
             self.machine.tick(view)
@@ -159,7 +160,8 @@ impl<F: Fifo> Slot<F> {
     #[tactic(auto, unfolding(crate::specs::Slots::settled_slot, sm_registers::specs::State::settled_ports))]
     fn settle(&mut self, due: &Due, intent: &Intent) -> bool
         requires take { IsTrue intent.now.take → 0 < length self.old.machine.ports.fifos.tx }
-        requires word { IsSome intent.now.word → length self.old.machine.ports.fifos.rx < self.old.machine.ports.fifos.rx_room }
+        requires word { IsSome intent.now.word
+            → length self.old.machine.ports.fifos.rx < self.old.machine.ports.fifos.rx_room }
         requires clock { self.old.timing.clock < 2 ^ 40 }
         requires sent { self.old.sent < 2 ^ 40 }
         requires received { self.old.received < 2 ^ 40 }

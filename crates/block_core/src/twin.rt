@@ -48,7 +48,8 @@ impl<F: Fifo> Twin<F> {
         second: &Setup,
         own: u32,
     ) -> Result<Twin<F>, AllocError>
-        ensures { IfOk result (λ twin. twin ≡ record { twin = first_twin own first.now second.now; calls = 0 }) }
+        ensures { IfOk result (λ twin.
+            twin ≡ record { twin = first_twin own first.now second.now; calls = 0 }) }
     {
         let pad = setup_pads(own, first, second);
         Ok(Twin {
@@ -81,8 +82,10 @@ impl<F: Fifo> Twin<F> {
         requires { self.old.twin.first.clock < 2 ^ 40 }
         ensures twin { self.new.twin ≡ twin_next quiet quiet self.old.twin }
         ensures fifos { (result.0.fifos, result.1.fifos) ≡ twin_uses_fifos_in quiet quiet self.old.twin }
-        ensures first { result.0.shown ≡ false → sample_of self.new.twin.first.state ≡ sample_of self.old.twin.first.state }
-        ensures second { result.1.shown ≡ false → sample_of self.new.twin.second.state ≡ sample_of self.old.twin.second.state }
+        ensures first { result.0.shown ≡ false
+            → sample_of self.new.twin.first.state ≡ sample_of self.old.twin.first.state }
+        ensures second { result.1.shown ≡ false
+            → sample_of self.new.twin.second.state ≡ sample_of self.old.twin.second.state }
         ensures calls { self.new.calls ≡ self.old.calls + 1 }
     {
         let pad = self.pads(None);
@@ -129,7 +132,8 @@ impl<F: Fifo> Twin<F> {
     /// How many clocks go by before the next one in which either block stirs, if the system does nothing; none where no
     /// clock ever does. It takes no longer for many clocks, and no machine is asked after one that stirs at once.
     pub fn next_stir(&self) -> Option<u64>
-        ensures first { IsFirst (λ n. twin_moves_on quiet quiet (twin_from self.now.twin (λ c. quiet) (λ c. quiet) n)) 0 result }
+        ensures first { IsFirst
+            (λ n. twin_moves_on quiet quiet (twin_from self.now.twin (λ c. quiet) (λ c. quiet) n)) 0 result }
     {
         self.first.a_rest_only_counts();
         self.second.a_rest_only_counts();

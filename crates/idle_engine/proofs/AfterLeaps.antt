@@ -88,8 +88,8 @@ after_leap {H} k laws l begin c course clocks_at b later until clocks before now
     (from_course k laws l begin c course clocks_at b later until clocks now from to)
 
 -- the state after a clock that was worked out
-pub course-next : {H L V : Type 0} (k : RunKind H L V) (l own : L) (begin : H) (c : Course H V) → IsCourse k l begin c → (n : ℕ) (before after : H) → before ≡ c.at n → own ≡ l → after ≡ k.next own before → after ≡ c.at (n + 1)
-course-next {H} {L} k l own begin c course n before after is is_own is_next =
+pub course-next : {H L V : Type 0} {k : RunKind H L V} {l own : L} {begin : H} {c : Course H V} → IsCourse k l begin c → (n : ℕ) {before after : H} → before ≡ c.at n → own ≡ l → after ≡ k.next own before → after ≡ c.at (n + 1)
+course-next {H} {L} {V} {k} {l} {own} {begin} {c} course n {before} {after} is is_own is_next =
     is_next ∙ ap (λ (x : L). k.next x before) is_own ∙ ap (k.next l) is ∙ sym (course.goes n) ∙ ap c.at (sym (add-one n))
 
 -- what it shows is what the clock shows

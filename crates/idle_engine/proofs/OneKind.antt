@@ -1,6 +1,6 @@
 -- A run of one block is of its kind.
-use Rattle.std.proofs.Common.{◌≡◌, ℕ, ◌+◌, ◌<◌, ◌≤◌, ◌||◌, Bool, true, false, List, inl, inr, refl, ap, ◌∙◌}
-use Rattle.std.proofs.lemmas.Bool.{cases_lt}
+use Rattle.std.proofs.Common.{◌≡◌, ℕ, ◌+◌, ◌<◌, ◌≤◌, ◌||◌, Bool, false, List, inl, inr, refl, ap, ◌∙◌}
+use Rattle.std.proofs.lemmas.Bool.{cases_lt, or_parts}
 use Rattle.dreq_pacing.specs.declared.line.Line.{Line}
 use Rattle.dreq_pacing.specs.declared.due.Requests.{Requests}
 use Rattle.dreq_pacing.specs.Due.{quiet}
@@ -57,13 +57,9 @@ pub asked-next : (lines : List Line) (h : Hosted) (n : ℕ) (run : Run) (t : Tra
 unfolding hosted_next
 asked-next lines h n run t in_clock is_run is_t = rw (is_run, is_t, in_clock) refl
 
-first_false : (a b : Bool) → (a || b) ≡ false → a ≡ false
-first_false false b h = refl
-first_false true b h = cc
-
 no_line : (lines : List Line) (c : ℕ) (requests : Requests) (t : Transfers) → acts_in lines c requests t ≡ false → has_line c lines ≡ false
 unfolding acts_in
-no_line lines c requests t h = first_false (has_line c lines) (moves_in c requests t) h
+no_line lines c requests t h = (or_parts (has_line c lines) (moves_in c requests t) h).0
 
 -- no line is passed over in clocks in which the system doesn't act
 pub none_before : (lines : List Line) (requests : Requests) (t : Transfers) (next n m : ℕ) → NoneBetween lines next n → ((c : ℕ) → n ≤ c → c < m → acts_in lines c requests t ≡ false) → NoneBetween lines next m

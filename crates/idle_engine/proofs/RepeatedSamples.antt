@@ -37,16 +37,20 @@ told-none at all h holds told = record {
   told = told;
 }
 
--- it may be told of this clock next, and what it was told is held up to it
-pub is-next : {T : Type 0} (at : ℕ → T) (all : ℕ → List T) → AreFirsts at all → (clock : ℕ) (holds : List T → Type 0) → (t : IsTold at all clock holds) → IsNext (all t.last) clock
-is-next at all h clock holds t = firsts-next at all h t.last clock t.before t.first
+-- the same of the clock by another name
+pub told-at : {T : Type 0} {at : ℕ → T} {all : ℕ → List T} {holds : List T → Type 0} {clock n : ℕ} → clock ≡ n → IsTold at all clock holds → IsTold at all n holds
+told-at {T} {at} {all} {holds} e t = subst (λ (m : ℕ). IsTold at all m holds) e t
 
-pub is-held : {T : Type 0} (at : ℕ → T) (all : ℕ → List T) → AreFirsts at all → (clock : ℕ) (holds : List T → Type 0) → (t : IsTold at all clock holds) → held_to clock (all t.last) ≡ all clock
-is-held at all h clock holds t = held-since at all h t.last clock t.before t.first t.same
+-- it may be told of this clock next, and what it was told is held up to it
+pub is-next : {T : Type 0} {at : ℕ → T} {all : ℕ → List T} → AreFirsts at all → {clock : ℕ} {holds : List T → Type 0} → (t : IsTold at all clock holds) → IsNext (all t.last) clock
+is-next {T} {at} {all} h {clock} t = firsts-next at all h t.last clock t.before t.first
+
+pub is-held : {T : Type 0} {at : ℕ → T} {all : ℕ → List T} → AreFirsts at all → {clock : ℕ} {holds : List T → Type 0} → (t : IsTold at all clock holds) → held_to clock (all t.last) ≡ all clock
+is-held {T} {at} {all} h {clock} t = held-since at all h t.last clock t.before t.first t.same
 
 -- and then has the clock too
-pub is-told : {T : Type 0} (at : ℕ → T) (all : ℕ → List T) → AreFirsts at all → (clock : ℕ) (holds : List T → Type 0) → (t : IsTold at all clock holds) → (s : T) → s ≡ at clock → told_at clock s (all t.last) ≡ all (clock + 1)
-is-told at all h clock holds t s is = firsts-told at all h t.last clock s (is-held at all h clock holds t) is
+pub is-told : {T : Type 0} {at : ℕ → T} {all : ℕ → List T} → AreFirsts at all → {clock : ℕ} {holds : List T → Type 0} → (t : IsTold at all clock holds) → {s : T} → s ≡ at clock → told_at clock s (all t.last) ≡ all (clock + 1)
+is-told {T} {at} {all} h {clock} t {s} is = firsts-told at all h t.last clock s (is-held h t) is
 
 -- it is told of the clock, and those up to a later one show the same
 told-next : {T : Type 0} (at : ℕ → T) (all : ℕ → List T) → AreFirsts at all → (clock later : ℕ) (s : T) (before after : List T → Type 0) → clock + 1 ≤ later → ((k : ℕ) → clock + 1 ≤ k → k < later → at k ≡ at clock) → s ≡ at clock → (t : IsTold at all clock before) → (before (all t.last) → IsNext (all t.last) clock → after (told_at clock s (all t.last))) → IsTold at all later after
@@ -55,7 +59,7 @@ told-next at all h clock later s before after le same is t tells = record {
   before = le;
   first = λ none. absurd (omega arith);
   same = λ k from below. (let e : clock + 1 - 1 ≡ clock = omega arith in same k from below ∙ ap at (sym e));
-  told = subst after (is-told at all h clock before t s is) (tells t.told (is-next at all h clock before t));
+  told = subst after (is-told h t is) (tells t.told (is-next h t));
 }
 
 -- it isn't, since the clock shows what the one before shows

@@ -1,6 +1,6 @@
 -- A run of two blocks is of its kind.
 use Rattle.std.proofs.Common.{◌≡◌, ℕ, ◌+◌, ◌||◌, min, Bool, true, false, List, inl, inr, refl, ap, ◌∙◌, sym, arith}
-use Rattle.std.proofs.lemmas.Bool.{cases_lt}
+use Rattle.std.proofs.lemmas.Bool.{cases_lt, or_from, or_left, or_parts, or_right}
 use Rattle.dreq_pacing.specs.declared.line.Line.{Line}
 use Rattle.dreq_pacing.specs.declared.due.Due.{Due}
 use Rattle.dreq_pacing.specs.Due.{quiet}
@@ -16,10 +16,6 @@ use Rattle.idle_engine.specs.Kinds.{IsKind, IsUntil}
 use Rattle.idle_engine.specs.Twin.{twin}
 use Rattle.idle_engine.proofs.OneKind.{QuietDue, QuietTransfers, DoesNothing, does_nothing}
 
-pub neither : (a b : Bool) → (a || b) ≡ false → (a ≡ false) × (b ≡ false)
-neither false b h = (refl, h)
-neither true b h = cc
-
 -- a clock in which the system acts at either stirs, whatever moves
 either_acts : (a b m n : Bool) → (a || b) ≡ true → ((a || m) || (b || n)) ≡ true
 either_acts true b m n h = refl
@@ -30,7 +26,7 @@ either_acts false false m n h = cc
 -- it does nothing at both
 both_rest : QuietDue → QuietTransfers → (lines : List Line × List Line) (h : HostedTwin) (n : ℕ) → twin.in_clock h n → twin.acts lines h n ≡ false → DoesNothing lines.0 h.first × DoesNothing lines.1 h.second
 both_rest quiet_due quiet_transfers lines h n in_clock rests =
-    let e = neither (acts_in lines.0 n (requests_of h.first.run.state) h.first.transfers) (acts_in lines.1 n (requests_of h.second.run.state) h.second.transfers) rests in
+    let e = or_parts (acts_in lines.0 n (requests_of h.first.run.state) h.first.transfers) (acts_in lines.1 n (requests_of h.second.run.state) h.second.transfers) rests in
     (does_nothing quiet_due quiet_transfers lines.0 h.first n in_clock.0 e.0, does_nothing quiet_due quiet_transfers lines.1 h.second n in_clock.1 e.1)
 
 pub twin-kind : QuietDue → QuietTransfers → IsKind twin
@@ -70,22 +66,10 @@ UnusedAsk = (pad : ℕ) (d : Due) (r : Run) → uses_fifos_over pad d r ≡ fals
 pub both-ask : UnusedAsk → (t now : TwinRun) (used : Bool × Bool) → now ≡ twin_next quiet quiet t → used ≡ twin_uses_fifos_in quiet quiet t → (used.0 || used.1) ≡ false → (requests_of now.first.state ≡ requests_of t.first.state) × (requests_of now.second.state ≡ requests_of t.second.state)
 unfolding twin_next
 both-ask law t now used is_now is_used none =
-    let unused = neither used.0 used.1 none in (
+    let unused = or_parts used.0 used.1 none in (
       ap (λ (t : TwinRun). requests_of t.first.state) is_now ∙ law (twin_pads_in quiet t) quiet t.first (sym (ap (λ (u : Bool × Bool). u.0) is_used) ∙ unused.0),
       ap (λ (t : TwinRun). requests_of t.second.state) is_now ∙ law (twin_pads_in quiet t) quiet t.second (sym (ap (λ (u : Bool × Bool). u.1) is_used) ∙ unused.1),
     )
-
-or_false : (a b : Bool) → a ≡ false → b ≡ false → (a || b) ≡ false
-or_false false b h k = k
-or_false true b h k = cc
-
-or_left : (a b : Bool) → a ≡ true → (a || b) ≡ true
-or_left true b h = refl
-or_left false b h = cc
-
-or_right : (a b : Bool) → b ≡ true → (a || b) ≡ true
-or_right true b h = refl
-or_right false b h = h
 
 -- the first clock in which either of two tests passes
 pub until_either : (a b : ℕ → Bool) (end from x y : ℕ) → IsUntil a end from x → IsUntil b end from y → IsUntil (λ n. a n || b n) end from (min x y)
@@ -96,7 +80,7 @@ until_either a b end from x y u v =
     record {
       ahead = omega arith;
       within = omega arith;
-      rests = λ c low below. or_false (a c) (b c) (u.rests c low (omega arith)) (v.rests c low (omega arith));
+      rests = λ c low below. or_from (a c) (b c) (u.rests c low (omega arith)) (v.rests c low (omega arith));
       passes = λ early. elim (cases_lt y x) [
         | inl lt ↦ (let e : min x y ≡ y = omega arith in or_right (a (min x y)) (b (min x y)) (ap b e ∙ v.passes (omega arith)))
         | inr ge ↦ (let e : min x y ≡ x = omega arith in or_left (a (min x y)) (b (min x y)) (ap a e ∙ u.passes (omega arith)))

@@ -21,10 +21,12 @@ pub(crate) fn step<V, P, R: Runs<V, P>>(
     requires within { end ≤ 10 ^ 12 }
     requires may_ask { R.may_ask ports.old clock }
     requires until { IsUntil (R.kind.acts (R.lines ports.old) (R.hosted runs.old ports.old)) end clock until }
-    ensures run { R.hosted runs.new ports.new ≡ R.kind.next (R.lines ports.old) (R.hosted runs.old ports.old) }
+    ensures run { R.hosted runs.new ports.new
+        ≡ R.kind.next (R.lines ports.old) (R.hosted runs.old ports.old) }
     ensures lines { R.lines ports.new ≡ R.lines ports.old }
     ensures may_ask { R.may_ask ports.new (clock + 1) }
-    ensures until { IsUntil (R.kind.acts (R.lines ports.new) (R.hosted runs.new ports.new)) end (clock + 1) result.0 }
+    ensures until { IsUntil (R.kind.acts (R.lines ports.new) (R.hosted runs.new ports.new))
+        end (clock + 1) result.0 }
     ensures shown { result.1 ≡ false
         → R.kind.shown (R.hosted runs.new ports.new) ≡ R.kind.shown (R.hosted runs.old ports.old) }
     ensures calls { R.calls runs.new ≡ R.calls runs.old + 1 }
@@ -51,7 +53,8 @@ pub(crate) fn leap<V, P, R: Runs<V, P>>(runs: &mut R, ports: &P, clock: u64, unt
     requires ahead { clock ≤ until }
     ensures from { clock ≤ result }
     ensures until { result ≤ until }
-    ensures run { R.hosted runs.new ports.now ≡ R.kind.quiet_from (R.hosted runs.old ports.now) (result - clock) }
+    ensures run { R.hosted runs.new ports.now
+        ≡ R.kind.quiet_from (R.hosted runs.old ports.now) (result - clock) }
     ensures calm { IsCalm R.kind (R.hosted runs.old ports.now) (result - clock) }
     ensures moves_on { result < until → R.kind.moves_on (R.hosted runs.new ports.now) ≡ true }
     ensures calls { R.calls runs.new ≡ R.calls runs.old }

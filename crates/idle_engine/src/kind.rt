@@ -77,13 +77,15 @@ pub(crate) trait Runs<V, P> {
 
     /// How many clocks go by before the first in which it moves on, if the system does nothing, up to the most.
     fn next_stir(&self, ports: &P, most: u64) -> u64
-        ensures { IsUntil (λ n. kind.moves_on (kind.quiet_from (hosted self.now ports.now) n)) most 0 result };
+        ensures { IsUntil (λ n. kind.moves_on (kind.quiet_from (hosted self.now ports.now) n))
+            most 0 result };
 
     /// So many clocks at once, in none of which it moves on, and in which the system does nothing.
     fn leap(&mut self, ports: &P, clock: u64, clocks: u64)
         requires clock { kind.in_clock (hosted self.old ports.now) clock }
         requires within { clock + clocks ≤ 2 ^ 40 }
-        requires rests { (n : ℕ) → n < clocks → kind.moves_on (kind.quiet_from (hosted self.old ports.now) n) ≡ false }
+        requires rests { (n : ℕ) → n < clocks
+            → kind.moves_on (kind.quiet_from (hosted self.old ports.now) n) ≡ false }
         ensures run { hosted self.new ports.now ≡ kind.quiet_from (hosted self.old ports.now) clocks }
         ensures calm { IsCalm kind (hosted self.old ports.now) clocks }
         ensures calls { calls self.new ≡ calls self.old };
@@ -92,7 +94,8 @@ pub(crate) trait Runs<V, P> {
 /// The first number that passes a test, or the end where that comes first.
 #[inline]
 pub(crate) fn until(first: Option<u64>, end: u64) -> u64
-    ensures { (test : ℕ → Bool) (from : ℕ) → from ≤ end → IsFirst test from first → IsUntil test end from result }
+    ensures { (test : ℕ → Bool) (from : ℕ) → from ≤ end → IsFirst test from first
+        → IsUntil test end from result }
 {
     match first {
         Some(first) => first.min(end),

@@ -31,8 +31,10 @@ pub fn later_samples_follow()
 /// A run that stopped while a text was written, to a sink that took a first part of the text so far, has written a first part
 /// of the whole text, where the text's first parts stay first parts.
 pub fn a_stopped_run_leaves_a_first_part()
-    ensures samples { (start : Run) (lines : List Line) → LeavesFirstPart (run_after start lines) (samples start lines) }
-    ensures insides { (start : Run) (lines : List Line) → LeavesFirstPart (run_after start lines) (insides start lines) }
+    ensures samples { (start : Run) (lines : List Line)
+        → LeavesFirstPart (run_after start lines) (samples start lines) }
+    ensures insides { (start : Run) (lines : List Line)
+        → LeavesFirstPart (run_after start lines) (insides start lines) }
     ensures twin { (start : TwinRun) (first second : List Line)
         → LeavesFirstPart (twin_after start first second) (twin_samples start first second) }
 {}

@@ -40,8 +40,8 @@ pub fn simulate<F: Fifo, T: Trace<Sample>, L: Ledger>(
     ensures ok { OnOk result (FromReady (T.ready trace.old) (T.holds trace.new)
         (samples block.old.run schedule.now clocks) true) }
     ensures run { OnOk result (block.new.run ≡ (hosted_at block.old.run schedule.now clocks).run) }
-    ensures err { OnErr result (Stops (run_after block.old.run schedule.now) (samples block.old.run schedule.now)
-        clocks block.new.run (FromReady (T.ready trace.old) (T.broken trace.new))) }
+    ensures err { OnErr result (Stops (run_after block.old.run schedule.now)
+        (samples block.old.run schedule.now) clocks block.new.run (FromReady (T.ready trace.old) (T.broken trace.new))) }
     ensures failed { T.has_failed trace.new ≡ is_err result }
     ensures cause { PutCounts (T.faults trace.old) (T.faults trace.new) result }
     ensures same { T.name trace.new ≡ T.name trace.old }
@@ -70,8 +70,8 @@ pub fn simulate_inside<F: Fifo, T: Trace<Inside>, L: Ledger>(
     ensures ok { OnOk result (FromReady (T.ready trace.old) (T.holds trace.new)
         (insides block.old.run schedule.now clocks) true) }
     ensures run { OnOk result (block.new.run ≡ (hosted_at block.old.run schedule.now clocks).run) }
-    ensures err { OnErr result (Stops (run_after block.old.run schedule.now) (insides block.old.run schedule.now)
-        clocks block.new.run (FromReady (T.ready trace.old) (T.broken trace.new))) }
+    ensures err { OnErr result (Stops (run_after block.old.run schedule.now)
+        (insides block.old.run schedule.now) clocks block.new.run (FromReady (T.ready trace.old) (T.broken trace.new))) }
     ensures failed { T.has_failed trace.new ≡ is_err result }
     ensures cause { PutCounts (T.faults trace.old) (T.faults trace.new) result }
     ensures same { T.name trace.new ≡ T.name trace.old }
@@ -100,7 +100,8 @@ pub fn simulate_conduct<F: Fifo, T: Trace<Conduct>, L: Ledger>(
     requires working { T.has_failed trace.old ≡ false }
     ensures ok { OnOk result (FromReady (T.ready trace.old) (T.holds trace.new)
         (conducts block.old.worked.run schedule.now clocks) true) }
-    ensures run { OnOk result (block.new.worked.run ≡ (hosted_at block.old.worked.run schedule.now clocks).run) }
+    ensures run { OnOk result (block.new.worked.run
+        ≡ (hosted_at block.old.worked.run schedule.now clocks).run) }
     ensures failed { T.has_failed trace.new ≡ is_err result }
     ensures cause { PutCounts (T.faults trace.old) (T.faults trace.new) result }
     ensures same { T.name trace.new ≡ T.name trace.old }
@@ -133,14 +134,17 @@ pub fn simulate_twin<F: Fifo, T: Trace<(Sample, Sample)>, L: Ledger>(
     requires working { T.has_failed trace.old ≡ false }
     ensures ok { OnOk result (FromReady (T.ready trace.old) (T.holds trace.new)
         (twin_samples twin.old.twin first.now second.now clocks) true) }
-    ensures run { OnOk result (twin.new.twin ≡ twin_of (hosted_twin_at twin.old.twin first.now second.now clocks)) }
+    ensures run { OnOk result (twin.new.twin
+        ≡ twin_of (hosted_twin_at twin.old.twin first.now second.now clocks)) }
     ensures err { OnErr result (Stops (twin_after twin.old.twin first.now second.now)
-        (twin_samples twin.old.twin first.now second.now) clocks twin.new.twin (FromReady (T.ready trace.old) (T.broken trace.new))) }
+        (twin_samples twin.old.twin first.now second.now) clocks twin.new.twin
+        (FromReady (T.ready trace.old) (T.broken trace.new))) }
     ensures failed { T.has_failed trace.new ≡ is_err result }
     ensures cause { PutCounts (T.faults trace.old) (T.faults trace.new) result }
     ensures same { T.name trace.new ≡ T.name trace.old }
     ensures steps { steps.new + twin.old.calls ≡ steps.old + twin.new.calls }
-    ensures exact { OnOk result (steps.new ≡ steps.old + twin_worked_in twin.old.twin first.now second.now clocks) }
+    ensures exact { OnOk result (steps.new
+        ≡ steps.old + twin_worked_in twin.old.twin first.now second.now clocks) }
     ensures most { steps.new ≤ steps.old + twin_worked_in twin.old.twin first.now second.now clocks }
 {
     let mut ports = (HostPorts::new(first), HostPorts::new(second));
@@ -157,7 +161,8 @@ fn run<V: Drop, P, R: Runs<V, P>, T: Trace<V>, L: Ledger>(
     trace: &mut T,
     steps: &mut Steps<L>,
 ) -> Result<(), TraceFailed>
-    requires course { IsCourse R.kind (R.lines ports.old) (R.hosted runs.old ports.old) (R.course runs.old ports.old) }
+    requires course { IsCourse R.kind (R.lines ports.old) (R.hosted runs.old ports.old)
+        (R.course runs.old ports.old) }
     requires may_ask { R.may_ask ports.old 0 }
     requires within { clocks ≤ 10 ^ 12 }
     requires working { T.has_failed trace.old ≡ false }

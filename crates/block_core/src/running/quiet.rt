@@ -56,7 +56,8 @@ impl<F: Fifo> Slot<F> {
         requires ready { ready ≡ true → spec.is_ready (Some self.old) ≡ true }
         requires clock { self.old.timing.clock < 2 ^ 40 }
         ensures simple { is_done result ≡ spec.is_simple view.now (Some self.old) }
-        ensures done { is_done result ≡ true → spec.MakesSimpleClock view.now self.old self.new outputs.old outputs.new }
+        ensures done { is_done result ≡ true
+            → spec.MakesSimpleClock view.now self.old self.new outputs.old outputs.new }
         ensures next { leaves_ready result ≡ true → spec.is_ready (Some self.new) ≡ true }
         ensures kept { is_done result ≡ false → (self.new ≡ self.old) × (outputs.new ≡ outputs.old) }
     {

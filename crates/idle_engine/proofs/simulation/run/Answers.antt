@@ -1,8 +1,7 @@
 use Rattle.std.proofs.Common.{rules, arith, ◌≡◌, ℕ, ◌+◌, Bool, false, true, Option, List, Result, Ok, Err, OnErr, subst, refl, sym, ap, ◌∙◌}
 use Rattle.std.proofs.lemmas.Result.{on_err_weaker, on_ok_weaker}
-use Rattle.sample_trace.specs.Told.{IsNext, held_to}
 use Rattle.idle_engine.specs.Kinds.{IsUntil, shown_at}
-use Rattle.idle_engine.proofs.RepeatedSamples.{IsTold, is-held, is-next, is-told, told-after, told-none}
+use Rattle.idle_engine.proofs.RepeatedSamples.{IsTold, is-held, is-next, is-told, told-after, told-at, told-none}
 use Rattle.idle_engine.proofs.AfterLeaps.{IsAfterLeap, after_leap, course-next, in_clocks, shown-next, shows-again}
 use Rattle.idle_engine.proofs.WorkedClocks.{worked-grows, worked-later, worked-none}
 use Rattle.idle_engine.proofs.simulation.run.Given.{Over}
@@ -54,11 +53,9 @@ step-next-requires-clause-clock g c =
 
 pub leap-clock-requires-clause-clock : goal.leap-clock-requires-clause-clock
 leap-clock-requires-clause-clock g c =
-    let course = g.R.Runs.course c.args.runs.now c.args.ports.now in
     let inv = c.clocks.invariant in
-    let k = g.R.Runs.kind in
-    let run = course-next k (g.R.Runs.lines c.args.ports.now) (g.R.Runs.lines c.clocks.ports) _ course inv.is_course c.clocks.clock _ _ inv.run inv.lines c.step-next.ensures.run in
-    subst (λ (h : g.R.Runs.Hosted). k.in_clock h (c.clocks.clock + 1)) (sym run) (inv.clocks_at (c.clocks.clock + 1))
+    let run = course-next inv.is_course c.clocks.clock inv.run inv.lines c.step-next.ensures.run in
+    subst (λ (h : g.R.Runs.Hosted). g.R.Runs.kind.in_clock h (c.clocks.clock + 1)) (sym run) (inv.clocks_at (c.clocks.clock + 1))
 
 pub returns-in_err-tell-clause-err : goal.returns-in_err-tell-clause-err
 returns-in_err-tell-clause-err g c =
@@ -66,7 +63,7 @@ returns-in_err-tell-clause-err g c =
     let inv = c.clocks.invariant in
     let k = g.R.Runs.kind in
     let n = c.clocks.clock in
-    let run = course-next k (g.R.Runs.lines c.args.ports.now) (g.R.Runs.lines c.clocks.ports) _ course inv.is_course n _ _ inv.run inv.lines c.step-next.ensures.run in
+    let run = course-next inv.is_course n inv.run inv.lines c.step-next.ensures.run in
     let s = shown-next k course n _ _ run refl in
     on_err c.from_residual-in_err-tell.result (record {
       count = n + 1;
@@ -76,8 +73,8 @@ returns-in_err-tell-clause-err g c =
       run = run;
       breaks = λ b r.
           subst (λ (l : List g.row.V.Denot). g.T.Trace.broken c.tell.new.trace b l false)
-          (is-told (shown_at k course) course.samples inv.is_course.samples n _ inv.told _ s)
-          (c.in_err-tell.ensures.err b (course.samples inv.told.last) (inv.told.told b r) (is-next (shown_at k course) course.samples inv.is_course.samples n _ inv.told));
+          (is-told inv.is_course.samples inv.told s)
+          (c.in_err-tell.ensures.err b (course.samples inv.told.last) (inv.told.told b r) (is-next inv.is_course.samples inv.told));
     })
 
 pub returns-in_err-tell-clause-most : goal.returns-in_err-tell-clause-most
@@ -96,7 +93,7 @@ run_after g c =
     let inv = c.clocks.invariant in
     let k = g.R.Runs.kind in
     let lines = g.R.Runs.lines c.args.ports.now in
-    let run = course-next k lines (g.R.Runs.lines c.clocks.ports) _ course inv.is_course c.clocks.clock _ _ inv.run inv.lines c.step-next.ensures.run in
+    let run = course-next inv.is_course c.clocks.clock inv.run inv.lines c.step-next.ensures.run in
     let own : g.R.Runs.lines c.step-next.new.ports ≡ lines = c.step-next.ensures.lines ∙ inv.lines in
     let until = subst (λ (l : g.R.Runs.Lines). IsUntil (k.acts l (g.R.Runs.hosted c.step-next.new.runs c.step-next.new.ports)) c.args.clocks (c.clocks.clock + 1) c.step-next.result.0) own c.step-next.ensures.until in
     after_leap k c.is_of_its_kind.ensures.kind lines _ course inv.is_course inv.clocks_at c.clocks.clock c.leap-clock.result c.step-next.result.0 c.args.clocks _ _ run
@@ -109,7 +106,7 @@ told_after g c =
     let inv = c.clocks.invariant in
     let k = g.R.Runs.kind in
     let n = c.clocks.clock in
-    let run = course-next k (g.R.Runs.lines c.args.ports.now) (g.R.Runs.lines c.clocks.ports) _ course inv.is_course n _ _ inv.run inv.lines c.step-next.ensures.run in
+    let run = course-next inv.is_course n inv.run inv.lines c.step-next.ensures.run in
     let s = shown-next k course n _ _ run refl in
     told-after (shown_at k course) course.samples inv.is_course.samples n c.leap-clock.result _ c.step-next.result.1 _ _ c.leap-clock.ensures.from (run_after g c).same s
     (λ old some. shows-again k course n _ _ inv.run run (c.step-next.ensures.shown old) some) inv.told
@@ -146,32 +143,25 @@ clocks-preserved g c =
 pub returns-clause-ok : goal.returns-clause-ok
 returns-clause-ok g c =
     let course = g.R.Runs.course c.args.runs.now c.args.ports.now in
-    let inv = c.clocks.invariant in
-    let at = shown_at g.R.Runs.kind course in
-    let all = course.samples in
-    let n = c.args.clocks in
-    let at_end : c.clocks.clock ≡ n = omega arith in
-    let next = subst (λ (m : ℕ). IsNext (all inv.told.last) m) at_end (is-next at all inv.is_course.samples c.clocks.clock _ inv.told) in
-    let held = subst (λ (m : ℕ). held_to m (all inv.told.last) ≡ all m) at_end (is-held at all inv.is_course.samples c.clocks.clock _ inv.told) in
+    let firsts = c.requires.course.samples in
+    let at_end : c.clocks.clock ≡ c.args.clocks = omega arith in
+    let told = told-at at_end c.clocks.invariant.told in
     on_ok_weaker c.end.result (λ end b r.
-    subst (λ (l : List g.row.V.Denot). g.T.Trace.holds c.end.new.self b l true) held (end b (all inv.told.last) (inv.told.told b r) next)) c.end.ensures.ok
+    subst (λ (l : List g.row.V.Denot). g.T.Trace.holds c.end.new.self b l true) (is-held firsts told) (end b (course.samples told.last) (told.told b r) (is-next firsts told))) c.end.ensures.ok
 
 pub returns-clause-err : goal.returns-clause-err
 returns-clause-err g c =
     let course = g.R.Runs.course c.args.runs.now c.args.ports.now in
+    let firsts = c.requires.course.samples in
     let inv = c.clocks.invariant in
-    let at = shown_at g.R.Runs.kind course in
-    let all = course.samples in
-    let n = c.args.clocks in
-    let at_end : c.clocks.clock ≡ n = omega arith in
-    let next = subst (λ (m : ℕ). IsNext (all inv.told.last) m) at_end (is-next at all inv.is_course.samples c.clocks.clock _ inv.told) in
-    let held = subst (λ (m : ℕ). held_to m (all inv.told.last) ≡ all m) at_end (is-held at all inv.is_course.samples c.clocks.clock _ inv.told) in
+    let at_end : c.clocks.clock ≡ c.args.clocks = omega arith in
+    let told = told-at at_end inv.told in
     on_err_weaker c.end.result (λ end. record {
-      count = n;
+      count = c.args.clocks;
       within = omega arith;
       ended = true;
       whole = λ e. refl;
       run = inv.run ∙ ap course.at at_end;
       breaks = λ b r.
-          subst (λ (l : List g.row.V.Denot). g.T.Trace.broken c.end.new.self b l true) held (end b (all inv.told.last) (inv.told.told b r) next);
+          subst (λ (l : List g.row.V.Denot). g.T.Trace.broken c.end.new.self b l true) (is-held firsts told) (end b (course.samples told.last) (told.told b r) (is-next firsts told));
     }) c.end.ensures.err

@@ -11,8 +11,7 @@ use Rattle.block_core.specs.declared.sample.Sample.{Sample}
 use Rattle.block_core.proofs.Showing.{shows_first, first_new, outputs_new}
 use Rattle.block_core.proofs.SimpleSteps.{AllEmpty, IsSimple, all_empty, simple_run, simple_uses_none, simple_shows, stays_empty}
 use Rattle.block_core.proofs.SimpleClocks.{WantsPins}
-use Rattle.block_core.proofs.Steps.{in_step_after}
-use Rattle.block_core.proofs.PlacesTold.{place_told}
+use Rattle.block_core.proofs.PlacesTold.{all_in_step}
 use Rattle.block_core.proofs.MergedWants.{view}
 use Rattle.block_core.proofs.running.Running.quiet_step.Given.{Over}
 use Rattle.block_core.proofs.running.Running.quiet_step.Goals as goal
@@ -47,31 +46,14 @@ pub invariant_of-self : goal.invariant_of-self
 invariant_of-self g c =
     let b = c.self.inside in
     let v = view b.shared.memory (seen_of b.shared.sync.bypass c.args.pad b.shared.sync.pad_2) b.shared.flags.up in
-    let kept = c.self.invariant.0 in
     let law = c.a_calm_tick_tells_nothing_new.ensures in
     let none = empty g c in
-    let after = (simple g c).after in
     let second = stays_empty v quiet b.second none.second in
     let third = stays_empty v quiet b.third none.third in
     let fourth = stays_empty v quiet b.fourth none.fourth in
     let shows = simple_shows c.a_quiet_clock_changes_nothing.ensures b.shared.memory b.wanted.outputs.levels b.wanted.outputs.directions b.shared.flags.up b.shared.sync c.args.pad _ b.first (Some c.simple_clock-tried.new.self) c.simple_clock-tried.new.outputs b.sample (simple g c) (shows_first c.self.invariant.1) in
     let o = c.simple_clock-tried.new.outputs in (
-      record {
-        told = (
-          place_told law.after law.more _ v _ _ _ refl kept.told.0 after,
-          (
-            place_told law.after law.more _ v _ _ _ refl kept.told.1.0 second,
-            (
-              place_told law.after law.more _ v _ _ _ refl kept.told.1.1.0 third,
-              (place_told law.after law.more _ v _ _ _ refl kept.told.1.1.1.0 fourth, tt),
-            ),
-          ),
-        );
-        first = in_step_after _ v quiet _ _ kept.first after;
-        second = in_step_after _ v quiet _ _ kept.second second;
-        third = in_step_after _ v quiet _ _ kept.third third;
-        fourth = in_step_after _ v quiet _ _ kept.fourth fourth;
-      },
+      all_in_step law.after law.more _ _ v quiet refl c.self.invariant.0 (simple g c).after second third fourth,
       subst (λ (s : Sample). IsSampleOf (state_of (Some c.simple_clock-tried.new.self) b.second b.third b.fourth o.levels o.directions b.shared.flags.up b.outside) s) (sym c.show_pins.ensures.after)
           (outputs_new (first_new c.self.invariant.1 _ _ shows) o.levels o.directions),
       record { alone = c.self.invariant.2.alone; ready = λ h. (alone g c, c.simple_clock-tried.ensures.next (sym c.is_ready-self-inside.ensures ∙ h)) },

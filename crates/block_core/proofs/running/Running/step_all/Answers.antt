@@ -4,8 +4,7 @@ use Rattle.sm_registers.specs.View.{View}
 use Rattle.block_core.specs.Merging.{with_intent}
 use Rattle.block_core.specs.Slots.{doing, place_after, place_intent, place_uses_fifos}
 use Rattle.block_core.proofs.Showing.{shows_first, shows_second, shows_third, shows_fourth, first_new, second_new, third_new, fourth_new, pins_new}
-use Rattle.block_core.proofs.Steps.{in_step_after}
-use Rattle.block_core.proofs.PlacesTold.{place_told}
+use Rattle.block_core.proofs.PlacesTold.{all_in_step}
 use Rattle.block_core.proofs.SimpleSteps.{empty_after}
 use Rattle.block_core.proofs.MergedWants.{next_run, any_used}
 use Rattle.block_core.proofs.running.Running.step_all.Goals as goal
@@ -34,29 +33,13 @@ step-fourth-requires-clause-shows g c =
 
 pub invariant_of-self : goal.invariant_of-self
 invariant_of-self g c =
-    let kept = c.self.invariant.0 in
     let law = c.a_calm_tick_tells_nothing_new.ensures in
     let memory = ap (λ (v : View). v.memory) c.new-view.ensures in
     let one = first_new c.self.invariant.1 _ _ c.step-first.ensures.sample in
     let two = second_new one _ _ c.step-second.ensures.sample in
     let three = third_new two _ _ c.step-third.ensures.sample in
     let four = fourth_new three _ _ c.step-fourth.ensures.sample in (
-      record {
-        told = (
-          place_told law.after law.more _ _ _ _ _ memory kept.told.0 c.step-first.ensures.after,
-          (
-            place_told law.after law.more _ _ _ _ _ memory kept.told.1.0 c.step-second.ensures.after,
-            (
-              place_told law.after law.more _ _ _ _ _ memory kept.told.1.1.0 c.step-third.ensures.after,
-              (place_told law.after law.more _ _ _ _ _ memory kept.told.1.1.1.0 c.step-fourth.ensures.after, tt),
-            ),
-          ),
-        );
-        first = in_step_after _ _ _ _ _ kept.first c.step-first.ensures.after;
-        second = in_step_after _ _ _ _ _ kept.second c.step-second.ensures.after;
-        third = in_step_after _ _ _ _ _ kept.third c.step-third.ensures.after;
-        fourth = in_step_after _ _ _ _ _ kept.fourth c.step-fourth.ensures.after;
-      },
+      all_in_step law.after law.more _ _ _ _ memory c.self.invariant.0 c.step-first.ensures.after c.step-second.ensures.after c.step-third.ensures.after c.step-fourth.ensures.after,
       pins_new four _ _ _ _,
       record {
         alone = c.self.invariant.2.alone ∙ empty_after _ _ _ _ _ _ _ _ c.step-second.ensures.after c.step-third.ensures.after c.step-fourth.ensures.after;

@@ -16,12 +16,8 @@ invariant_of-self g c =
 
 pub returns-clause-twin : goal.returns-clause-twin
 returns-clause-twin g c =
-    let b = c.self.inside in
-    let t : TwinRun = record { own = b.own; first = b.first; second = b.second } in
-    twin_next_with c.args.first.now c.args.second.now t c.args.self.now.twin c.pads-pad.result _ _ (ap (λ (w : WorkedTwin). w.twin) c.self.view_is) c.pads-pad.ensures c.step-one.ensures.run c.step-other.ensures.run
+    twin_next_with c.args.first.now c.args.second.now _ c.args.self.now.twin c.pads-pad.result _ _ (ap (λ (w : WorkedTwin). w.twin) c.self.view_is) c.pads-pad.ensures c.step-one.ensures.run c.step-other.ensures.run
 
 pub returns-clause-used : goal.returns-clause-used
 returns-clause-used g c =
-    let b = c.self.inside in
-    let t : TwinRun = record { own = b.own; first = b.first; second = b.second } in
-    twin_uses_with c.args.first.now c.args.second.now t c.args.self.now.twin c.pads-pad.result c.step-one.result c.step-other.result (ap (λ (w : WorkedTwin). w.twin) c.self.view_is) c.pads-pad.ensures c.step-one.ensures.used c.step-other.ensures.used
+    twin_uses_with c.args.first.now c.args.second.now _ c.args.self.now.twin c.pads-pad.result c.step-one.result c.step-other.result (ap (λ (w : WorkedTwin). w.twin) c.self.view_is) c.pads-pad.ensures c.step-one.ensures.used c.step-other.ensures.used

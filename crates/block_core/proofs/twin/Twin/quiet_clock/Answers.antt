@@ -17,15 +17,11 @@ invariant_of-self g c =
 
 pub returns-clause-twin : goal.returns-clause-twin
 returns-clause-twin g c =
-    let b = c.self.inside in
-    let t : TwinRun = record { own = b.own; first = b.first; second = b.second } in
-    twin_next_with quiet quiet t c.args.self.now.twin c.pads-pad.result _ _ (ap (λ (w : WorkedTwin). w.twin) c.self.view_is) c.pads-pad.ensures c.quiet_step-one.ensures.run c.quiet_step-other.ensures.run
+    twin_next_with quiet quiet _ c.args.self.now.twin c.pads-pad.result _ _ (ap (λ (w : WorkedTwin). w.twin) c.self.view_is) c.pads-pad.ensures c.quiet_step-one.ensures.run c.quiet_step-other.ensures.run
 
 pub returns-clause-fifos : goal.returns-clause-fifos
 returns-clause-fifos g c =
-    let b = c.self.inside in
-    let t : TwinRun = record { own = b.own; first = b.first; second = b.second } in
-    twin_uses_with quiet quiet t c.args.self.now.twin c.pads-pad.result c.quiet_step-one.result.fifos c.quiet_step-other.result.fifos (ap (λ (w : WorkedTwin). w.twin) c.self.view_is) c.pads-pad.ensures c.quiet_step-one.ensures.fifos c.quiet_step-other.ensures.fifos
+    twin_uses_with quiet quiet _ c.args.self.now.twin c.pads-pad.result c.quiet_step-one.result.fifos c.quiet_step-other.result.fifos (ap (λ (w : WorkedTwin). w.twin) c.self.view_is) c.pads-pad.ensures c.quiet_step-one.ensures.fifos c.quiet_step-other.ensures.fifos
 
 -- as the search finds it; a wrong body is refused at once
 pub returns-clause-second : goal.returns-clause-second
