@@ -109,8 +109,8 @@ fn put_changed_words<S: Sink>(
     now: &Sample,
 ) -> Result<(), SinkFailed>
     requires { first + 16 ≤ 256 }
-    ensures bytes { Takes (S.taken sink.old) (vector_changes first (vectors_of before.now) (vectors_of now.now))
-        (S.taken sink.new) result }
+    ensures bytes { Takes (S.taken sink.old)
+        (vector_changes first (vectors_of before.now) (vectors_of now.now)) (S.taken sink.new) result }
     ensures cause { PutCounts (S.faults sink.old) (S.faults sink.new) result }
 {
     if has_same_words(before, now) {
@@ -119,7 +119,7 @@ fn put_changed_words<S: Sink>(
     put_words(sink, first, before, now)
 }
 
-// Whether two samples agree in the values of more than one bit. The lists of bytes are compared by their copies, each at once.
+// Whether two samples agree in the values of more than one bit. The lists of bytes are compared by copies, all at once.
 #[inline(always)]
 fn has_same_words(before: &Sample, now: &Sample) -> bool
     ensures { result ≡ same_words before.now now.now }
@@ -136,8 +136,8 @@ fn put_words<S: Sink>(
     now: &Sample,
 ) -> Result<(), SinkFailed>
     requires { first + 16 ≤ 256 }
-    ensures bytes { Takes (S.taken sink.old) (vector_changes first (vectors_of before.now) (vectors_of now.now))
-        (S.taken sink.new) result }
+    ensures bytes { Takes (S.taken sink.old)
+        (vector_changes first (vectors_of before.now) (vectors_of now.now)) (S.taken sink.new) result }
     ensures cause { PutCounts (S.faults sink.old) (S.faults sink.new) result }
 {
     put_changed_vectors(sink, first, &vectors_of(before), &vectors_of(now))
