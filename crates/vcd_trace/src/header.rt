@@ -3,8 +3,7 @@ ghost use Rattle.std.specs.Prelude.{◌≡◌, ℕ, ◌+◌, ◌≤◌, ◌<◌,
 ghost use Rattle.pio_edge.specs.Edge.{Takes, PutCounts};
 ghost use Rattle.vcd_trace.specs.VcdText.{header_text, scope_text, identifier, variables, variable, numbered};
 ghost use Rattle.vcd_trace.specs.TwinText.{twin_header_text};
-ghost use Rattle.vcd_trace.specs.InsideText.{named};
-ghost use Rattle.vcd_trace.specs.VcdText.{declaration, declarations};
+ghost use Rattle.vcd_trace.specs.VcdText.{declaration, declarations, named};
 
 use crate::variable::{LEVEL, SECOND};
 use arrayvec::ArrayString;
