@@ -3,7 +3,7 @@ use Rattle.std.proofs.Common.{◌≡◌, ℕ, ◌+◌, ◌-◌, ◌≤◌, ◌<�
 use Rattle.std.specs.Prelude.{codes}
 use Rattle.std.proofs.Math.ListN.{drop_of_length-le}
 use Rattle.vcd_trace.specs.declared.header.TheConstants.{GROUPS}
-use Rattle.vcd_trace.specs.VcdText.{Variable, variable, numbered, variables, declaration, declarations, scope_text, header_text}
+use Rattle.vcd_trace.specs.VcdText.{Variable, variable, numbered, variables, declaration, declarations, scope_of, scope_text, header_text}
 use Rattle.vcd_trace.specs.TwinText.{twin_header_text}
 use Rattle.vcd_trace.proofs.TextLaws.{drop_at}
 
@@ -78,8 +78,8 @@ count_from-turn i groups h =
     ∙ ap (λ n. n + length (variables_of (drop (i + 1) groups))) (length-numbered g.0 g.1 0 g.2)
 
 -- a scope's lines one by one
-pub scope-parts : (opening : List ℕ) (more : ℕ) → scope_text opening more ≡ opening ++ (declarations (33 + more) variables ++ codes "$upscope $end\n")
-scope-parts opening more = append_assoc opening (declarations (33 + more) variables) (codes "$upscope $end\n")
+pub scope_of-parts : (opening : List ℕ) (id : ℕ) (those : List Variable) → scope_of opening id those ≡ opening ++ (declarations id those ++ codes "$upscope $end\n")
+scope_of-parts opening id those = append_assoc opening (declarations id those) (codes "$upscope $end\n")
 
 -- the declaration commands one by one
 pub header-parts : header_text ≡ codes "$timescale 1 ns $end\n" ++ (scope_text (codes "$scope module pio $end\n") 0 ++ codes "$enddefinitions $end\n")

@@ -4,9 +4,9 @@ use Rattle.std.specs.Prelude.{codes, replicate, if◌then◌else◌}
 use Rattle.block_core.specs.declared.inside.MachineInside.{MachineInside}
 use Rattle.block_core.specs.declared.inside.Inside.{Inside}
 use Rattle.block_core.specs.Sample.{bits_of, same_numbers}
-use Rattle.vcd_trace.specs.VcdText.{Variable, declaration, declarations, scope_text, value_lines, change_lines, values_over, changes_over, vector_line}
+use Rattle.vcd_trace.specs.VcdText.{named, declaration, declarations, scope_text, value_lines, change_lines, values_over, changes_over, vector_line}
 use Rattle.vcd_trace.specs.Groups.{bit_lines, bit_changes, vector_lines, vector_changes}
-use Rattle.vcd_trace.specs.InsideText.{bit_of, inside_changes_text, inside_dump_text, inside_header_text, machine_changes, machine_lines, machine_scope, machine_scopes, machine_values, machine_variables, machine_widths, machines_changes, machines_lines, named, pad_changes, pad_lines, pad_variables, pads_scope, scope_of}
+use Rattle.vcd_trace.specs.InsideText.{bit_of, inside_changes_text, inside_dump_text, inside_header_text, machine_changes, machine_lines, machine_scope, machine_scopes, machine_values, machine_variables, machine_widths, machines_changes, machines_lines, pad_changes, pad_lines, pad_variables, pads_scope}
 use Rattle.vcd_trace.specs.InsideGroups.{flags_of, long_of, machine_variable, place_of, register_changes, registers_of, same_registers, short_of, words_of}
 use Rattle.vcd_trace.proofs.TextLaws.{bit_changes-same, change_lines-append, drop_at, one_line, value_lines-append}
 use Rattle.vcd_trace.proofs.ChangesLaws.{both_true, change_lines-vectors, same_numbers-equal, value_lines-vectors, vector_changes-none}
@@ -24,10 +24,6 @@ pub inside_header-parts : (configured : List Bool) → inside_header_text config
 unfolding inside_header_text
 inside_header-parts configured =
     five (codes "$timescale 1 ns $end\n") (scope_text (codes "$scope module pio $end\n") 0) pads_scope (machine_scopes 0 configured) (codes "$enddefinitions $end\n")
-
--- a scope's lines one by one
-pub scope_of-parts : (opening : List ℕ) (id : ℕ) (those : List Variable) → scope_of opening id those ≡ opening ++ (declarations id those ++ codes "$upscope $end\n")
-scope_of-parts opening id those = three opening (declarations id those) (codes "$upscope $end\n")
 
 -- ---- the kinds of a machine's values
 
@@ -111,12 +107,6 @@ registers-none id a b h =
     let t = both_true (same_numbers (long_of a) (long_of b)) (same_numbers (short_of a) (short_of b)) h in
     let long : long_of a ≡ long_of b = same_numbers-equal (long_of a) (long_of b) t.0 in
     let short : short_of a ≡ short_of b = same_numbers-equal (short_of a) (short_of b) t.1 in
-    let x : a.x ≡ b.x = cc in
-    let y : a.y ≡ b.y = cc in
-    let isr : a.isr ≡ b.isr = cc in
-    let osr : a.osr ≡ b.osr = cc in
-    let isr_count : a.isr_count ≡ b.isr_count = cc in
-    let osr_count : a.osr_count ≡ b.osr_count = cc in
     let waits : bit_of a.waits ≡ bit_of b.waits = cc in
     let enabled : bit_of a.enabled ≡ bit_of b.enabled = cc in
     let registers : registers_of b ≡ registers_of a = cc in

@@ -76,14 +76,6 @@ same_bit false true h = absurd (omega (arith, h))
 -- a machine is known by its values
 machine-known : (a b : MachineInside) → machine_values a ≡ machine_values b → a ≡ b
 machine-known a b h =
-    let pc : a.pc ≡ b.pc = cc in
-    let instruction : a.instruction ≡ b.instruction = cc in
-    let x : a.x ≡ b.x = cc in
-    let y : a.y ≡ b.y = cc in
-    let isr : a.isr ≡ b.isr = cc in
-    let osr : a.osr ≡ b.osr = cc in
-    let isr_count : a.isr_count ≡ b.isr_count = cc in
-    let osr_count : a.osr_count ≡ b.osr_count = cc in
     let waits_bit : bit_of a.waits ≡ bit_of b.waits = cc in
     let enabled_bit : bit_of a.enabled ≡ bit_of b.enabled = cc in
     let waits : a.waits ≡ b.waits = same_bit a.waits b.waits waits_bit in

@@ -4,7 +4,7 @@ use borrow.Author.Tests.{ne_eqb}
 use Rattle.std.proofs.Common.{Option}
 use Rattle.pio_edge.specs.Edge.{with_bytes, TakesPrefix, Takes}
 use Rattle.pio_edge.specs.Puts.{Going}
-use Rattle.pio_edge.proofs.PutLaws.{going_on, takes_failed, going_ends, with_bytes-nil}
+use Rattle.pio_edge.proofs.PutLaws.{going_on, takes_failed, going_ends}
 use Rattle.std.specs.Prelude.{replicate}
 use Rattle.std.proofs.Math.Seq.{drop-cons}
 use Rattle.block_core.specs.Sample.{bits_of}
@@ -100,18 +100,6 @@ vector_lines-turn first i now k =
 -- nothing is left of the rest, so the whole text was taken
 pub going_done : (o m : Option (List ℕ)) (whole rest : List ℕ) → Going o m whole rest → rest ≡ [] → m ≡ with_bytes o whole
 going_done o m whole rest g e = going_ends o m whole (let P : List ℕ → Type 0 = λ r. Going o m whole r in subst P e g)
-
--- the line of a value that changes was taken
-pub going_changed : (o m n : Option (List ℕ)) (whole rest line later : List ℕ) (a b : ℕ) → Going o m whole rest → rest ≡ cond (eqb a b) [] line ++ later → (a ≡ b → ⊥) → n ≡ with_bytes m line → Going o n whole later
-going_changed o m n whole rest line later a b g e h t = going_on o m n whole rest line later g (e ∙ ap (λ x. x ++ later) (one_line a b line h)) t
-
--- a value that stays needs no put
-pub going_stayed : (o m n : Option (List ℕ)) (whole rest line later : List ℕ) (a b : ℕ) → Going o m whole rest → rest ≡ cond (eqb a b) [] line ++ later → a ≡ b → n ≡ m → Going o n whole later
-going_stayed o m n whole rest line later a b g e h k = going_on o m n whole rest [] later g (e ∙ ap (λ x. x ++ later) (no_line a b line h)) (k ∙ sym (with_bytes-nil m))
-
--- the line of a value that changes failed
-pub going_failed : {T E : Type 0} (o m n : Option (List ℕ)) (whole rest line later : List ℕ) (a b : ℕ) (r : Result T E) → Going o m whole rest → rest ≡ cond (eqb a b) [] line ++ later → (a ≡ b → ⊥) → IsErr r → TakesPrefix m line n → Takes o whole n r
-going_failed o m n whole rest line later a b r g e h f t = takes_failed o m n whole rest line later r g (e ∙ ap (λ x. x ++ later) (one_line a b line h)) f t
 
 -- the line of a value of more bits, before what follows it
 pub vector_line-onto : (id value : ℕ) (rest : List ℕ) → 98 ∷ (digits 2 false value ++ 32 ∷ (identifier id ++ 10 ∷ rest)) ≡ vector_line id value ++ rest

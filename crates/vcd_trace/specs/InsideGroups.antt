@@ -2,9 +2,9 @@
 use Rattle.std.specs.Prelude.{ℕ, ◌+◌, ◌*◌, ◌&&◌, Bool, List, [], ◌∷◌, ◌++◌, get_or}
 use Rattle.block_core.specs.declared.inside.MachineInside.{MachineInside}
 use Rattle.block_core.specs.Sample.{same_numbers}
-use Rattle.vcd_trace.specs.VcdText.{Variable}
+use Rattle.vcd_trace.specs.VcdText.{Variable, named}
 use Rattle.vcd_trace.specs.Groups.{bit_changes, vector_changes}
-use Rattle.vcd_trace.specs.InsideText.{bit_of, machine_variables, named}
+use Rattle.vcd_trace.specs.InsideText.{bit_of, machine_variables}
 
 -- a variable of a machine, by its place in their order
 unfoldable pub machine_variable : ℕ → Variable

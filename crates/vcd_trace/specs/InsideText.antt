@@ -12,17 +12,13 @@ use Rattle.block_core.specs.declared.inside.Inside.{Inside}
 use Rattle.block_core.specs.Sample.{bits_of, same_numbers, same_sample}
 use Rattle.vcd_trace.specs.Characters.{digit_0, letter_i}
 use Rattle.vcd_trace.specs.TextForm.{TextForm, opened_text, whole_text, told_text}
-use Rattle.vcd_trace.specs.VcdText.{Variable, numbered, first_identifier, second_scope, declarations, scope_text, clock_line, value_lines, change_lines, values_over, changes_over}
+use Rattle.vcd_trace.specs.VcdText.{Variable, named, numbered, first_identifier, second_scope, scope_of, scope_text, clock_line, value_lines, change_lines, values_over, changes_over}
 
 -- ---- the variables
 
 -- what is at each pad: one bit a pin
 unfoldable pub pad_variables : List Variable
 pad_variables = numbered letter_i 1 0 32
-
--- a variable of this name and width
-abbrev pub named : List ℕ → ℕ → Variable
-named name width = record { name = name; width = width }
 
 -- What is inside a machine, in the order of its values (RP2040 Datasheet, section 3.2): the address and the word that it is at, its
 -- scratch and shift registers, how many bits were shifted in and out, whether the instruction waits, and whether it is enabled.
@@ -55,10 +51,6 @@ abbrev pub first_of_machine : ℕ → ℕ
 first_of_machine place = first_pad + 32 + 10 * place
 
 -- ---- the declarations
-
--- a scope of this first line with these variables (IEEE 1364-2005, section 18.2.3.4), whose identifiers count on from one
-abbrev pub scope_of : List ℕ → ℕ → List Variable → List ℕ
-scope_of opening id those = opening ++ declarations id those ++ codes "$upscope $end\n"
 
 -- the scope of the pads
 abbrev pub pads_scope : List ℕ

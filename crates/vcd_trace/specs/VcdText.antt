@@ -11,9 +11,13 @@ pub record Variable : Type 0 where
   pub name : List ℕ
   pub width : ℕ
 
+-- a variable of this name and width
+abbrev pub named : List ℕ → ℕ → Variable
+named name width = record { name = name; width = width }
+
 -- the variable of a letter and a number, and its width
 abbrev pub variable : ℕ → ℕ → ℕ → Variable
-variable letter width number = record { name = letter ∷ decimal number; width = width }
+variable letter width number = named (letter ∷ decimal number) width
 
 -- so many variables of one letter and one width, numbered on from a number
 abbrev pub numbered : ℕ → ℕ → ℕ → ℕ → List Variable
@@ -52,9 +56,13 @@ abbrev pub declarations : ℕ → List Variable → List ℕ
 declarations id [] = []
 declarations id (v ∷ rest) = declaration id v ++ declarations (id + 1) rest
 
--- a scope of this first line (IEEE 1364-2005, section 18.2.3.4), whose variables have numbers so much greater
+-- a scope of this first line with these variables (IEEE 1364-2005, section 18.2.3.4), whose identifiers count on from one
+abbrev pub scope_of : List ℕ → ℕ → List Variable → List ℕ
+scope_of opening id those = opening ++ declarations id those ++ codes "$upscope $end\n"
+
+-- the scope of this first line with a sample's variables, whose numbers are so much greater
 abbrev pub scope_text : List ℕ → ℕ → List ℕ
-scope_text opening more = opening ++ declarations (first_identifier + more) variables ++ codes "$upscope $end\n"
+scope_text opening more = scope_of opening (first_identifier + more) variables
 
 -- the declaration commands: time scale, scope, variables
 unfoldable pub header_text : List ℕ

@@ -1,7 +1,7 @@
 //! The values that a clock changes, in the order of their identifiers.
-ghost use Rattle.std.specs.Prelude.{◌≡◌, ℕ, ◌+◌, ◌^◌, ◌<◌, ◌≤◌, OnOk};
+ghost use Rattle.std.specs.Prelude.{◌≡◌, ℕ, ◌+◌, ◌^◌, ◌<◌, ◌≤◌, ◌==◌, [], OnOk, if◌then◌else◌};
 ghost use Rattle.pio_edge.specs.Edge.{Takes, PutCounts};
-ghost use Rattle.vcd_trace.specs.VcdText.{changes_over};
+ghost use Rattle.vcd_trace.specs.VcdText.{changes_over, vector_line};
 ghost use Rattle.vcd_trace.specs.Groups.{bit_changes, same_rest, same_words, vector_changes, vectors_of};
 
 use crate::line::{put_bit, put_vector};
@@ -109,8 +109,8 @@ fn put_changed_words<S: Sink>(
     now: &Sample,
 ) -> Result<(), SinkFailed>
     requires { first + 16 ≤ 256 }
-    ensures bytes { Takes (S.taken sink.old) (vector_changes first (vectors_of before.now) (vectors_of now.now))
-        (S.taken sink.new) result }
+    ensures bytes { Takes (S.taken sink.old)
+        (vector_changes first (vectors_of before.now) (vectors_of now.now)) (S.taken sink.new) result }
     ensures cause { PutCounts (S.faults sink.old) (S.faults sink.new) result }
 {
     if has_same_words(before, now) {
@@ -119,7 +119,7 @@ fn put_changed_words<S: Sink>(
     put_words(sink, first, before, now)
 }
 
-// Whether two samples agree in the values of more than one bit. The lists of bytes are compared by their copies, each at once.
+// Whether two samples agree in the values of more than one bit. The lists of bytes are compared by copies, all at once.
 #[inline(always)]
 fn has_same_words(before: &Sample, now: &Sample) -> bool
     ensures { result ≡ same_words before.now now.now }
@@ -136,8 +136,8 @@ fn put_words<S: Sink>(
     now: &Sample,
 ) -> Result<(), SinkFailed>
     requires { first + 16 ≤ 256 }
-    ensures bytes { Takes (S.taken sink.old) (vector_changes first (vectors_of before.now) (vectors_of now.now))
-        (S.taken sink.new) result }
+    ensures bytes { Takes (S.taken sink.old)
+        (vector_changes first (vectors_of before.now) (vectors_of now.now)) (S.taken sink.new) result }
     ensures cause { PutCounts (S.faults sink.old) (S.faults sink.new) result }
 {
     put_changed_vectors(sink, first, &vectors_of(before), &vectors_of(now))
@@ -156,9 +156,20 @@ fn put_changed_vectors<S: Sink>(
     ensures cause { PutCounts (S.faults sink.old) (S.faults sink.new) result }
 {
     for place in 0..16 {
-        if before[place] != now[place] {
-            put_vector(sink, first + place as u8, now[place])?;
-        }
+        put_changed(sink, first + place as u8, before[place], now[place])?;
     }
     Ok(())
+}
+
+// The line of a value of more than one bit, if it changes.
+#[inline(always)]
+fn put_changed<S: Sink>(sink: &mut S, id: u8, before: u32, now: u32) -> Result<(), SinkFailed>
+    ensures bytes { Takes (S.taken sink.old)
+        (if before == now then [] else vector_line id now) (S.taken sink.new) result }
+    ensures cause { PutCounts (S.faults sink.old) (S.faults sink.new) result }
+{
+    if before == now {
+        return Ok(());
+    }
+    put_vector(sink, id, now)
 }

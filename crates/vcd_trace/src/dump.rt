@@ -26,7 +26,8 @@ pub(crate) fn put_twin_dump<S: Sink>(
     first: &Sample,
     second: &Sample,
 ) -> Result<(), SinkFailed>
-    ensures bytes { Takes (S.taken sink.old) (twin_dump_text (first.now, second.now)) (S.taken sink.new) result }
+    ensures bytes { Takes (S.taken sink.old)
+        (twin_dump_text (first.now, second.now)) (S.taken sink.new) result }
     ensures cause { PutCounts (S.faults sink.old) (S.faults sink.new) result }
 {
     sink.put(b"$dumpvars\n")?;

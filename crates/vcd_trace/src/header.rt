@@ -1,9 +1,9 @@
 //! The declarations that a trace begins with (IEEE 1364-2005, section 18.2.3).
-ghost use Rattle.std.specs.Prelude.{◌≡◌, ℕ, ◌+◌, ◌≤◌, ◌<◌, ◌∷◌, decimal};
+ghost use Rattle.std.specs.Prelude.{◌≡◌, ℕ, ◌+◌, ◌≤◌, ◌<◌, ◌∷◌, decimal, length};
 ghost use Rattle.pio_edge.specs.Edge.{Takes, PutCounts};
 ghost use Rattle.vcd_trace.specs.VcdText.{header_text, scope_text, identifier, variables, variable, numbered};
 ghost use Rattle.vcd_trace.specs.TwinText.{twin_header_text};
-ghost use Rattle.vcd_trace.specs.VcdText.{declaration, declarations};
+ghost use Rattle.vcd_trace.specs.VcdText.{declaration, declarations, named};
 
 use crate::variable::{LEVEL, SECOND};
 use arrayvec::ArrayString;
@@ -100,21 +100,38 @@ fn put_declaration<S: Sink>(
         (S.taken sink.new) result }
     ensures cause { PutCounts (S.faults sink.old) (S.faults sink.new) result }
 {
+    let mut name = ArrayString::<4>::new();
+    name.push(char::from(letter));
+    name.push_str(Buffer::new().format(number));
+    put_named(sink, id, name.as_str(), width)
+}
+
+/// The declaration of a variable of this name and width.
+pub(crate) fn put_named<S: Sink>(
+    sink: &mut S,
+    id: u8,
+    name: &str,
+    width: u8,
+) -> Result<(), SinkFailed>
+    requires { length name.now ≤ 11 }
+    ensures bytes { Takes (S.taken sink.old)
+        (declaration id (named name.now width)) (S.taken sink.new) result }
+    ensures cause { PutCounts (S.faults sink.old) (S.faults sink.new) result }
+{
     let mut digits = Buffer::new();
-    let mut line = ArrayString::<32>::new();
+    let mut line = ArrayString::<40>::new();
     line.push_str("$var wire ");
     line.push_str(digits.format(width));
     line.push(' ');
     line.push_str(identifier_of(id).as_str());
     line.push(' ');
-    line.push(char::from(letter));
-    line.push_str(digits.format(number));
+    line.push_str(name);
     line.push_str(" $end\n");
     sink.put(line.as_str().as_bytes())
 }
 
-/// The identifier of a variable.
-pub(crate) fn identifier_of(id: u8) -> ArrayString<2>
+// The identifier of a variable.
+fn identifier_of(id: u8) -> ArrayString<2>
     ensures { result.bytes ≡ identifier id }
 {
     let mut text = ArrayString::<2>::new();

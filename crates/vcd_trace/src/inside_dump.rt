@@ -56,7 +56,8 @@ fn put_where<S: Sink>(
 // The values of a machine, whose numbers count on from one.
 fn put_machine<S: Sink>(sink: &mut S, first: u8, machine: &MachineInside) -> Result<(), SinkFailed>
     requires { first + 10 ≤ 256 }
-    ensures bytes { Takes (S.taken sink.old) (value_lines first machine_widths (machine_values machine.now)) (S.taken sink.new) result }
+    ensures bytes { Takes (S.taken sink.old)
+        (value_lines first machine_widths (machine_values machine.now)) (S.taken sink.new) result }
     ensures cause { PutCounts (S.faults sink.old) (S.faults sink.new) result }
 {
     put_vectors(sink, first, &words_of(machine))?;

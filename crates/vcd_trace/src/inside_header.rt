@@ -1,15 +1,13 @@
 //! The declarations that a trace of what is inside a block begins with (IEEE 1364-2005, section 18.2.3).
 ghost use Rattle.std.specs.Prelude.{◌≡◌, ◌+◌, ◌*◌, ◌≤◌, ◌<◌, [], length, if◌then◌else◌};
 ghost use Rattle.pio_edge.specs.Edge.{Takes, PutCounts};
-ghost use Rattle.vcd_trace.specs.VcdText.{declaration, declarations};
+ghost use Rattle.vcd_trace.specs.VcdText.{declarations};
 ghost use Rattle.vcd_trace.specs.InsideText.{first_of_machine, inside_header_text, machine_opening, machine_scope};
-ghost use Rattle.vcd_trace.specs.InsideText.{machine_scopes, machine_variables, named, pads_scope};
+ghost use Rattle.vcd_trace.specs.InsideText.{machine_scopes, machine_variables, pads_scope};
 ghost use Rattle.vcd_trace.specs.InsideGroups.{machine_variable};
 
-use crate::header::{identifier_of, put_group, put_scope};
+use crate::header::{put_group, put_named, put_scope};
 use crate::variable::{MACHINE, MACHINE_VALUES, PAD};
-use arrayvec::ArrayString;
-use itoa::Buffer;
 use pio_edge::{Sink, SinkFailed};
 
 /// Puts the declarations, each line as one piece, with a scope for each configured machine.
@@ -51,7 +49,8 @@ fn put_machines<S: Sink>(sink: &mut S, configured: &[bool; 4]) -> Result<(), Sin
 // The scope of the machine at a place, where it is configured.
 fn put_where<S: Sink>(sink: &mut S, place: u8, configured: bool) -> Result<(), SinkFailed>
     requires { place < 4 }
-    ensures bytes { Takes (S.taken sink.old) (if configured then machine_scope place else []) (S.taken sink.new) result }
+    ensures bytes { Takes (S.taken sink.old)
+        (if configured then machine_scope place else []) (S.taken sink.new) result }
     ensures cause { PutCounts (S.faults sink.old) (S.faults sink.new) result }
 {
     if configured {
@@ -86,7 +85,8 @@ fn put_machine_opening<S: Sink>(sink: &mut S, place: u8) -> Result<(), SinkFaile
 // The declarations of a machine's variables, whose identifiers count on from one.
 fn put_machine_variables<S: Sink>(sink: &mut S, first: u8) -> Result<(), SinkFailed>
     requires { first + 10 ≤ 256 }
-    ensures bytes { Takes (S.taken sink.old) (declarations first machine_variables) (S.taken sink.new) result }
+    ensures bytes { Takes (S.taken sink.old)
+        (declarations first machine_variables) (S.taken sink.new) result }
     ensures cause { PutCounts (S.faults sink.old) (S.faults sink.new) result }
 {
     for number in 0..MACHINE_VALUES {
@@ -116,22 +116,4 @@ fn variable_of(number: u8) -> (&'static str, u8)
         8 => ("waits", 1),
         _ => ("enabled", 1),
     }
-}
-
-// The declaration of a variable of this name and width.
-fn put_named<S: Sink>(sink: &mut S, id: u8, name: &str, width: u8) -> Result<(), SinkFailed>
-    requires { length name.now ≤ 11 }
-    ensures bytes { Takes (S.taken sink.old) (declaration id (named name.now width)) (S.taken sink.new) result }
-    ensures cause { PutCounts (S.faults sink.old) (S.faults sink.new) result }
-{
-    let mut digits = Buffer::new();
-    let mut line = ArrayString::<40>::new();
-    line.push_str("$var wire ");
-    line.push_str(digits.format(width));
-    line.push(' ');
-    line.push_str(identifier_of(id).as_str());
-    line.push(' ');
-    line.push_str(name);
-    line.push_str(" $end\n");
-    sink.put(line.as_str().as_bytes())
 }

@@ -22,11 +22,12 @@ pub fn repeated_insides_add_nothing()
 /// What was written of what is inside stays: each further clock only adds after it.
 pub fn inside_text_only_grows()
     ensures { (configured : List Bool) (clock : ℕ) (now : Values) (told : List Values) → IsNext told clock
-        → (more : List ℕ) × (inside_open_text configured (told_at clock now told) ≡ inside_open_text configured told ++ more) }
+        → (more : List ℕ)
+        × (inside_open_text configured (told_at clock now told) ≡ inside_open_text configured told ++ more) }
 {}
 
-/// A sink that failed while what is inside was told of some clocks has a first part of the whole text of these and any further
-/// ones.
+/// A sink that failed while what is inside was told of some clocks has a first part of the whole text of these and
+/// any further ones.
 pub fn failing_early_leaves_a_first_part_of_what_is_inside()
     ensures { (configured : List Bool) (before now : Option (List ℕ)) (told more : List Values)
         → TakesPrefix before (inside_open_text configured told) now

@@ -156,7 +156,8 @@ fn put_step<S: Sink>(
     last: &mut Inside,
     now: &Inside,
 ) -> Result<(), SinkFailed>
-    ensures bytes { Takes (S.taken sink.old) (inside_step_text clock last.old now.now) (S.taken sink.new) result }
+    ensures bytes { Takes (S.taken sink.old)
+        (inside_step_text clock last.old now.now) (S.taken sink.new) result }
     ensures cause { PutCounts (S.faults sink.old) (S.faults sink.new) result }
     ensures kept { OnOk result (last.new ≡ now.now) }
 {
@@ -179,7 +180,8 @@ fn put_others<S: Sink>(
     last: &mut Inside,
     now: &Inside,
 ) -> Result<(), SinkFailed>
-    ensures bytes { Takes (S.taken sink.old) (inside_step_text clock last.old now.now) (S.taken sink.new) result }
+    ensures bytes { Takes (S.taken sink.old)
+        (inside_step_text clock last.old now.now) (S.taken sink.new) result }
     ensures cause { PutCounts (S.faults sink.old) (S.faults sink.new) result }
     ensures kept { OnOk result (last.new ≡ now.now) }
 {

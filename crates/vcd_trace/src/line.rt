@@ -1,5 +1,6 @@
 //! The lines of the value-change text, each put as one piece (IEEE 1364-2005, section 18.2).
-ghost use Rattle.std.specs.Prelude.{◌≡◌, ℕ, ◌+◌, ◌-◌, ◌<◌, ◌≤◌, ◌++◌, ◌∷◌, [], false, drop, length, is_some, if◌then◌else◌};
+ghost use Rattle.std.specs.Prelude.{◌≡◌, ℕ, ◌+◌, ◌-◌, ◌<◌, ◌≤◌, ◌++◌, ◌∷◌, [], false, drop, length};
+ghost use Rattle.std.specs.Prelude.{is_some, if◌then◌else◌};
 ghost use Rattle.std.specs.Fmt.{digits};
 ghost use Rattle.pio_edge.specs.Edge.{Takes, PutCounts};
 ghost use Rattle.vcd_trace.specs.Characters.{letter_b, newline, tilde};
@@ -27,7 +28,8 @@ pub(crate) fn put_end<S: Sink, V>(
     clock: u64,
     last: &Option<V>,
 ) -> Result<(), SinkFailed>
-    ensures bytes { Takes (S.taken sink.old) (if is_some last.now then clock_line clock else []) (S.taken sink.new) result }
+    ensures bytes { Takes (S.taken sink.old)
+        (if is_some last.now then clock_line clock else []) (S.taken sink.new) result }
     ensures cause { PutCounts (S.faults sink.old) (S.faults sink.new) result }
 {
     match last {

@@ -63,7 +63,8 @@ impl Places {
         requires before { end ≤ length room.now }
         ensures room { end ≤ result + PLACE_ROOM }
         ensures before { result ≤ end }
-        ensures text { drop result room.new ≡ place_lines (193 + 10 * place) pc instruction ++ drop end room.old }
+        ensures text { drop result room.new
+            ≡ place_lines (193 + 10 * place) pc instruction ++ drop end room.old }
     {
         let kept = &mut self.lines[usize::from(place * 32 + pc % 32)];
         kept.turn(MACHINE + MACHINE_VALUES * place, pc, instruction);

@@ -109,7 +109,8 @@ fn put_samples<S: Sink>(
     last: &Option<(Sample, Sample)>,
     samples: &(Sample, Sample),
 ) -> Result<(), SinkFailed>
-    ensures bytes { Takes (S.taken sink.old) (added twin_form clock last.now samples.now) (S.taken sink.new) result }
+    ensures bytes { Takes (S.taken sink.old)
+        (added twin_form clock last.now samples.now) (S.taken sink.new) result }
     ensures cause { PutCounts (S.faults sink.old) (S.faults sink.new) result }
 {
     match last {
@@ -125,7 +126,8 @@ fn put_step<S: Sink>(
     before: &(Sample, Sample),
     now: &(Sample, Sample),
 ) -> Result<(), SinkFailed>
-    ensures bytes { Takes (S.taken sink.old) (twin_step_text clock before.now now.now) (S.taken sink.new) result }
+    ensures bytes { Takes (S.taken sink.old)
+        (twin_step_text clock before.now now.now) (S.taken sink.new) result }
     ensures cause { PutCounts (S.faults sink.old) (S.faults sink.new) result }
 {
     if are_same(before, now) {

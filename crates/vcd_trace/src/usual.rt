@@ -1,6 +1,7 @@
 //! What most clocks add to a trace of what is inside a block, gathered in a room and put as one piece: the
 //! clock's line, and the lines of a level, of a pad and of machines. In other clocks those of the machines alone.
-ghost use Rattle.std.specs.Prelude.{◌≡◌, ◌+◌, ◌-◌, ◌*◌, ◌^◌, ◌<◌, ◌≤◌, ◌==◌, ◌++◌, [], Some, true, IfSome, drop, if◌then◌else◌, length};
+ghost use Rattle.std.specs.Prelude.{◌≡◌, ◌+◌, ◌-◌, ◌*◌, ◌^◌, ◌<◌, ◌≤◌, ◌==◌, ◌++◌, [], Some, true};
+ghost use Rattle.std.specs.Prelude.{IfSome, drop, if◌then◌else◌, length};
 ghost use Rattle.pio_edge.specs.Edge.{Takes, PutCounts};
 ghost use Rattle.vcd_trace.specs.VcdText.{bit_line, changes_over, vector_line};
 ghost use Rattle.vcd_trace.specs.Groups.{bit_changes, same_rest, vector_changes};
@@ -47,7 +48,8 @@ impl Rooms {
     pub(crate) fn write(&mut self, clock: u64, last: &Inside, now: &Inside) -> Option<usize>
         ensures within { IfSome result (λ start. start ≤ ROOM) }
         ensures rest { IfSome result (λ _. same_rest last.now.sample now.now.sample ≡ true) }
-        ensures text { IfSome result (λ start. drop start self.new.room ≡ inside_step_text clock last.now now.now) }
+        ensures text { IfSome result
+            (λ start. drop start self.new.room ≡ inside_step_text clock last.now now.now) }
     {
         if !is_usual(last, now) {
             return None;
@@ -62,14 +64,15 @@ impl Rooms {
         Some(self.line.write(&mut self.room, end))
     }
 
-    /// Puts the lines of the machines' values that are not what they were, as one piece.
+    /// Puts the lines of the machines' values that are not what they were, as one piece. No lines are no piece.
     pub(crate) fn put_machines<S: Sink>(
         &mut self,
         sink: &mut S,
         before: &[Option<MachineInside>; 4],
         now: &[Option<MachineInside>; 4],
     ) -> Result<(), SinkFailed>
-        ensures bytes { Takes (S.taken sink.old) (machines_changes 0 before.now now.now) (S.taken sink.new) result }
+        ensures bytes { Takes (S.taken sink.old)
+            (machines_changes 0 before.now now.now) (S.taken sink.new) result }
         ensures cause { PutCounts (S.faults sink.old) (S.faults sink.new) result }
     {
         let start = write_machines(&mut self.room, &mut self.places, before, now);
@@ -88,8 +91,10 @@ impl Rooms {
         ensures room { CLOCK_ROOM ≤ result }
         ensures before { result ≤ ROOM }
         ensures line { self.new.line ≡ self.old.line }
-        ensures text { drop result self.new.room ≡ bit_changes 33 32 last.now.sample.level now.now.sample.level
-            ++ (bit_changes 161 32 last.now.pads now.now.pads ++ machines_changes 0 last.now.machines now.now.machines) }
+        ensures text { drop result self.new.room
+            ≡ bit_changes 33 32 last.now.sample.level now.now.sample.level
+            ++ (bit_changes 161 32 last.now.pads now.now.pads
+            ++ machines_changes 0 last.now.machines now.now.machines) }
     {
         let machines = write_machines(
             &mut self.room,
@@ -360,7 +365,8 @@ fn write_changed(room: &mut [u8], end: usize, id: u8, before: u32, now: u32) -> 
     requires before { end ≤ length room.now }
     ensures room { end ≤ result + LINE_ROOM }
     ensures before { result ≤ end }
-    ensures text { drop result room.new ≡ (if before == now then [] else vector_line id now) ++ drop end room.old }
+    ensures text { drop result room.new
+        ≡ (if before == now then [] else vector_line id now) ++ drop end room.old }
 {
     if before == now {
         return end;

@@ -1,6 +1,5 @@
 use Rattle.std.proofs.Common.{◌≡◌, ◌+◌, ◌++◌, ◌∙◌, ap, arith, sym, rules}
-use Rattle.vcd_trace.specs.VcdText.{declaration}
-use Rattle.vcd_trace.specs.InsideText.{named}
+use Rattle.vcd_trace.specs.VcdText.{declaration, named}
 use Rattle.vcd_trace.specs.InsideGroups.{machine_variable}
 use Rattle.vcd_trace.proofs.InsideLaws.{named_text, named_text-all, named_text-none, named_text-turn}
 use Rattle.vcd_trace.proofs.TextLaws.{going_done}

@@ -2,7 +2,7 @@ use Rattle.std.proofs.Common.{refl}
 use Rattle.std.specs.Prelude.{codes}
 use Rattle.vcd_trace.specs.VcdText.{declarations}
 use Rattle.vcd_trace.specs.InsideText.{pad_variables}
-use Rattle.vcd_trace.proofs.InsideLaws.{scope_of-parts}
+use Rattle.vcd_trace.proofs.HeaderLaws.{scope_of-parts}
 use Rattle.pio_edge.proofs.PutLaws.{going_begins, going_on, takes_failed, takes_last}
 use Rattle.vcd_trace.proofs.inside_header.put_pads.Goals as goal
 
