@@ -18,7 +18,7 @@ use Rattle.sm_registers.specs.declared.sticky.TheConstants.{TX_STALL}
 use Rattle.sm_registers.specs.declared.registers.Registers.{Registers}
 use Rattle.sm_registers.specs.View.{View}
 use Rattle.sm_registers.specs.Queues.{Queues}
-use Rattle.sm_registers.specs.Effects.{Effect, quiet, stall, osr_filled, effect_of, jmp_effect, out_effect, pull_effect, set_effect}
+use Rattle.sm_registers.specs.Effects.{Effect, finished, stall, osr_filled, effect_of, jmp_effect, out_effect, pull_effect, set_effect}
 use Rattle.sm_registers.specs.Tick.{tick_of, tick_delay, tick_word, tick_by, after_effect, current_word, word_at}
 use Rattle.program_runs.specs.Steps.{IsAtInstruction}
 use Rattle.pio_uart.specs.Phases.{IsPulling}
@@ -99,7 +99,7 @@ module _ (int : ℕ) (s : MachineSetup) (h : IsUartMachine int s) (v : View) (me
     level_is = λ old. refl;
   })
 
-  set_does : (r : Registers) → effect_of (Set set_destination.X 7) s v q r ≡ quiet (record r { x = 7 })
+  set_does : (r : Registers) → effect_of (Set set_destination.X 7) s v q r ≡ finished (record r { x = 7 })
   unfolding effect_of set_effect
   set_does r = refl
 
@@ -113,9 +113,9 @@ module _ (int : ℕ) (s : MachineSetup) (h : IsUartMachine int s) (v : View) (me
     level_is = λ old. refl;
   })
 
-  out_does : (r : Registers) → effect_of (Out out_destination.Pins 1) s v q r ≡ record (quiet (record r { osr = r.osr / 2; out_count = min 32 (r.out_count + 1) })) { level = (1, r.osr % 2) }
+  out_does : (r : Registers) → effect_of (Out out_destination.Pins 1) s v q r ≡ record (finished (record r { osr = r.osr / 2; out_count = min 32 (r.out_count + 1) })) { level = (1, r.osr % 2) }
   unfolding effect_of out_effect
-  out_does r = rw (h.autopull, h.out_right, h.out.0, h.out.1) (ap (λ b. let e : Effect = record (quiet (record r { osr = r.osr / 2; out_count = min 32 (r.out_count + 1) })) { level = (1, b) } in e) (one_pin r.osr))
+  out_does r = rw (h.autopull, h.out_right, h.out.0, h.out.1) (ap (λ b. let e : Effect = record (finished (record r { osr = r.osr / 2; out_count = min 32 (r.out_count + 1) })) { level = (1, b) } in e) (one_pin r.osr))
 
   pub out_tick : (r : Registers) → IsAtInstruction 2 0 r → IsTicked (tick_of s v q r) 3 0 r.x (r.osr / 2) false (λ old. r.osr % 2)
   unfolding tick_by after_effect last_of
@@ -127,7 +127,7 @@ module _ (int : ℕ) (s : MachineSetup) (h : IsUartMachine int s) (v : View) (me
     level_is = λ old. low_bit r.osr;
   })
 
-  loop_does : (r : Registers) (x : ℕ) → r.x ≡ suc x → effect_of (Jmp condition.XDecrement 2) s v q r ≡ record (quiet (record r { x = (suc x + (2 ^ 32 - 1)) % 2 ^ 32 })) { jump = Some 2 }
+  loop_does : (r : Registers) (x : ℕ) → r.x ≡ suc x → effect_of (Jmp condition.XDecrement 2) s v q r ≡ record (finished (record r { x = (suc x + (2 ^ 32 - 1)) % 2 ^ 32 })) { jump = Some 2 }
   unfolding effect_of jmp_effect
   loop_does r x e = rw (e, ne_eqb (suc x) 0 (λ z. omega (arith, z))) refl
 
@@ -141,7 +141,7 @@ module _ (int : ℕ) (s : MachineSetup) (h : IsUartMachine int s) (v : View) (me
     level_is = λ old. refl;
   })
 
-  last_does : (r : Registers) → r.x ≡ 0 → effect_of (Jmp condition.XDecrement 2) s v q r ≡ quiet (record r { x = 2 ^ 32 - 1 })
+  last_does : (r : Registers) → r.x ≡ 0 → effect_of (Jmp condition.XDecrement 2) s v q r ≡ finished (record r { x = 2 ^ 32 - 1 })
   unfolding effect_of jmp_effect
   last_does r e = rw e refl
 
@@ -156,7 +156,7 @@ module _ (int : ℕ) (s : MachineSetup) (h : IsUartMachine int s) (v : View) (me
     level_is = λ old. refl;
   })
 
-  pull_does : (r : Registers) (word : ℕ) → q.front ≡ Some word → effect_of (Pull false true) s v q r ≡ record (quiet (osr_filled word r)) { take = true }
+  pull_does : (r : Registers) (word : ℕ) → q.front ≡ Some word → effect_of (Pull false true) s v q r ≡ record (finished (osr_filled word r)) { take = true }
   unfolding effect_of pull_effect
   pull_does r word front = rw (h.autopull, front) refl
 

@@ -24,7 +24,7 @@ use Rattle.sm_registers.specs.declared.sticky.TheConstants.{TX_STALL}
 use Rattle.sm_registers.specs.declared.registers.Registers.{Registers}
 use Rattle.sm_registers.specs.View.{View}
 use Rattle.sm_registers.specs.Queues.{Queues}
-use Rattle.sm_registers.specs.Effects.{Effect, quiet, stall, starves, effect_of, jmp_effect, out_effect, mov_effect}
+use Rattle.sm_registers.specs.Effects.{Effect, finished, stall, starves, effect_of, jmp_effect, out_effect, mov_effect}
 use Rattle.sm_registers.specs.Tick.{tick_of, tick_delay, tick_word, tick_by, after_effect, current_word, word_at, refilled, refills, side_writes}
 use Rattle.program_runs.specs.Steps.{IsAtInstruction}
 use Rattle.pio_ws2812.specs.Sending.{bits_down, word_bits, bits_of}
@@ -231,7 +231,7 @@ module _ (int pin : ℕ) (s : MachineSetup) (h : IsLightMachine int pin s) (is_p
       (ap (λ b. b || refills s q (after_effect op.delay s r e)) keeps) a ex k (by_side op r e value side l none)
 
   -- OUT
-  out_does : (r : Registers) → nat_le 24 r.out_count ≡ false → effect_of (Out out_destination.X 1) s v q r ≡ quiet (record r { osr = r.osr * 2 % 2 ^ 32; out_count = min 32 (r.out_count + 1); x = r.osr / 2 ^ 31 })
+  out_does : (r : Registers) → nat_le 24 r.out_count ≡ false → effect_of (Out out_destination.X 1) s v q r ≡ finished (record r { osr = r.osr * 2 % 2 ^ 32; out_count = min 32 (r.out_count + 1); x = r.osr / 2 ^ 31 })
   unfolding effect_of out_effect
   out_does r e = rw (h.autopull, h.pull_threshold, e, h.out_right) refl
 
@@ -241,7 +241,7 @@ module _ (int pin : ℕ) (s : MachineSetup) (h : IsLightMachine int pin s) (is_p
       let n = next_bit r bit bits k in
       let few : r.out_count < 24 = let e = n.left in omega (arith, e) in
       let op : Op = record { side = Some 0; delay = 2; act = Out out_destination.X 1 } in
-      let e : Effect = quiet (record r { osr = r.osr * 2 % 2 ^ 32; out_count = min 32 (r.out_count + 1); x = r.osr / 2 ^ 31 }) in
+      let e : Effect = finished (record r { osr = r.osr * 2 % 2 ^ 32; out_count = min 32 (r.out_count + 1); x = r.osr / 2 ^ 31 }) in
       subst (λ t. IsTicked pin q.front t 1 2 (cond bit 1 0) bits (λ old. cond r.begun old 0))
       (sym (tick_is r op e a.delay (reads v r s.side_rule 0 0x6221 op memory a.pending a.pc refl (out_word s.side_rule h.rule)) (out_does r (lt-leb 24 r.out_count few))))
       (by_tick op r e 1 2 (cond bit 1 0) 0 bits refl (omega arith) refl refl
@@ -271,11 +271,11 @@ module _ (int pin : ℕ) (s : MachineSetup) (h : IsLightMachine int pin s) (is_p
       })
 
   -- JMP, taken where X is 0
-  zero_does : (r : Registers) → r.x ≡ 0 → effect_of (Jmp condition.XZero 3) s v q r ≡ record (quiet r) { jump = Some 3 }
+  zero_does : (r : Registers) → r.x ≡ 0 → effect_of (Jmp condition.XZero 3) s v q r ≡ record (finished r) { jump = Some 3 }
   unfolding effect_of jmp_effect
   zero_does r e = rw e refl
 
-  one_does : (r : Registers) → r.x ≡ 1 → effect_of (Jmp condition.XZero 3) s v q r ≡ quiet r
+  one_does : (r : Registers) → r.x ≡ 1 → effect_of (Jmp condition.XZero 3) s v q r ≡ finished r
   unfolding effect_of jmp_effect
   one_does r e = rw e refl
 
@@ -290,16 +290,16 @@ module _ (int pin : ℕ) (s : MachineSetup) (h : IsLightMachine int pin s) (is_p
 
   pub zero_tick : (r : Registers) (bits : List Bool) → IsAtInstruction 1 0 r → r.x ≡ 0 → Holds r bits → IsTicked pin q.front (tick_of s v q r) 3 1 r.x bits (λ old. 1)
   unfolding after_effect
-  zero_tick r bits a x k = test r 3 bits (record (quiet r) { jump = Some 3 }) a (zero_does r x) refl refl
+  zero_tick r bits a x k = test r 3 bits (record (finished r) { jump = Some 3 }) a (zero_does r x) refl refl
       (record { pc = refl; delay = refl; pending = refl; begun = refl }) refl (record { word = k.word; bits_are = k.bits_are })
 
   pub one_tick : (r : Registers) (bits : List Bool) → IsAtInstruction 1 0 r → r.x ≡ 1 → Holds r bits → IsTicked pin q.front (tick_of s v q r) 2 1 r.x bits (λ old. 1)
   unfolding after_effect
-  one_tick r bits a x k = test r 2 bits (quiet r) a (one_does r x) refl refl
+  one_tick r bits a x k = test r 2 bits (finished r) a (one_does r x) refl refl
       (rw (a.pc, a.pending, h.wrap_top) (record { pc = refl; delay = refl; pending = refl; begun = refl })) refl (record { word = k.word; bits_are = k.bits_are })
 
   -- the JMP after a 1, and the `nop` after a 0
-  back_does : (r : Registers) → effect_of (Jmp condition.Always 0) s v q r ≡ record (quiet r) { jump = Some 0 }
+  back_does : (r : Registers) → effect_of (Jmp condition.Always 0) s v q r ≡ record (finished r) { jump = Some 0 }
   unfolding effect_of jmp_effect
   back_does r = refl
 
@@ -307,13 +307,13 @@ module _ (int pin : ℕ) (s : MachineSetup) (h : IsLightMachine int pin s) (is_p
   unfolding after_effect
   back_tick r bits a k =
       let op : Op = record { side = Some 1; delay = 4; act = Jmp condition.Always 0 } in
-      let e : Effect = record (quiet r) { jump = Some 0 } in
+      let e : Effect = record (finished r) { jump = Some 0 } in
       subst (λ t. IsTicked pin q.front t 0 4 r.x bits (λ old. 1))
       (sym (tick_is r op e a.delay (reads v r s.side_rule 2 0x1400 op memory a.pending a.pc refl (one_word s.side_rule h.rule)) (back_does r)))
       (subst (λ c. IsTicked pin q.front (tick_by op s q r e) 0 4 r.x bits (λ old. cond c old 1)) a.begun
       (by_tick op r e 0 4 r.x 1 bits refl (omega arith) refl refl (record { pc = refl; delay = refl; pending = refl; begun = refl }) refl (record { word = k.word; bits_are = k.bits_are })))
 
-  nop_does : (r : Registers) → effect_of (Mov mov_destination.Y mov_operation.Plain mov_source.Y) s v q r ≡ quiet (record r { y = r.y })
+  nop_does : (r : Registers) → effect_of (Mov mov_destination.Y mov_operation.Plain mov_source.Y) s v q r ≡ finished (record r { y = r.y })
   unfolding effect_of mov_effect
   nop_does r = refl
 
@@ -321,7 +321,7 @@ module _ (int pin : ℕ) (s : MachineSetup) (h : IsLightMachine int pin s) (is_p
   unfolding after_effect
   nop_tick r bits a k =
       let op : Op = record { side = Some 0; delay = 4; act = Mov mov_destination.Y mov_operation.Plain mov_source.Y } in
-      let e : Effect = quiet (record r { y = r.y }) in
+      let e : Effect = finished (record r { y = r.y }) in
       subst (λ t. IsTicked pin q.front t 0 4 r.x bits (λ old. 0))
       (sym (tick_is r op e a.delay (reads v r s.side_rule 3 0xa442 op memory a.pending a.pc refl (zero_word s.side_rule h.rule)) (nop_does r)))
       (subst (λ c. IsTicked pin q.front (tick_by op s q r e) 0 4 r.x bits (λ old. cond c old 0)) a.begun

@@ -28,7 +28,7 @@ use Rattle.sm_registers.specs.declared.intent.Kind.TheVariants.{First, Late, Del
 use Rattle.sm_registers.specs.Intents.{no_intent}
 use Rattle.sm_registers.specs.Laws.{IsAlike, bit_of, read_of, jmp_reads, wait_reads, in_reads, mov_reads, irq_reads}
 use Rattle.sm_registers.specs.Idling.{is_unmet, stays, undelayed, waits_again}
-use Rattle.sm_registers.specs.Effects.{Effect, is_due, quiet, stall, has_polarity, waited_bit, waited_flag, jmp_effect, wait_effect, in_effect, autopushed, mov_to, mov_effect, operated, irq_effect, effect_of}
+use Rattle.sm_registers.specs.Effects.{Effect, is_due, finished, stall, has_polarity, waited_bit, waited_flag, jmp_effect, wait_effect, in_effect, autopushed, mov_to, mov_effect, operated, irq_effect, effect_of}
 use Rattle.sm_registers.specs.Rules.{current_act}
 use Rattle.sm_registers.specs.Tick.{current_word, after_effect, refills, refilled, osr_filled_from, side_writes, tick_delay, tick_by, tick_word, tick_of}
 use Rattle.sm_registers.proofs.Effects.{does}
@@ -70,7 +70,7 @@ jmp_alike condition.XDecrement a s v w r h = refl
 jmp_alike condition.YZero a s v w r h = refl
 jmp_alike condition.YDecrement a s v w r h = refl
 jmp_alike condition.XNotY a s v w r h = refl
-jmp_alike condition.Pin a s v w r h = ap (λ b. record (quiet r) { jump = cond (b == 1) (Some a) None }) h
+jmp_alike condition.Pin a s v w r h = ap (λ b. record (finished r) { jump = cond (b == 1) (Some a) None }) h
 jmp_alike condition.OsrNotEmpty a s v w r h = refl
 
 wait_alike :
@@ -78,11 +78,11 @@ wait_alike :
     → wait_reads source index s v ≡ wait_reads source index s w → wait_effect polarity source index s v r ≡ wait_effect polarity source index s w r
 unfolding wait_effect
 wait_alike polarity wait_source.Gpio index s v w r h =
-    ap (λ b. cond (has_polarity polarity (b == 1)) (record (quiet r) { clears = waited_flag polarity wait_source.Gpio index s }) (stall r)) h
+    ap (λ b. cond (has_polarity polarity (b == 1)) (record (finished r) { clears = waited_flag polarity wait_source.Gpio index s }) (stall r)) h
 wait_alike polarity wait_source.Pin index s v w r h =
-    ap (λ b. cond (has_polarity polarity (b == 1)) (record (quiet r) { clears = waited_flag polarity wait_source.Pin index s }) (stall r)) h
+    ap (λ b. cond (has_polarity polarity (b == 1)) (record (finished r) { clears = waited_flag polarity wait_source.Pin index s }) (stall r)) h
 wait_alike polarity wait_source.Irq index s v w r h =
-    ap (λ b. cond (has_polarity polarity (b == 1)) (record (quiet r) { clears = waited_flag polarity wait_source.Irq index s }) (stall r)) h
+    ap (λ b. cond (has_polarity polarity (b == 1)) (record (finished r) { clears = waited_flag polarity wait_source.Irq index s }) (stall r)) h
 
 -- the ISR with bits that are given as a number
 abbrev bits_in : ℕ → ℕ → MachineSetup → Registers → Registers

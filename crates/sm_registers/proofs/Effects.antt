@@ -28,7 +28,7 @@ use Rattle.sm_registers.specs.View.{View}
 use Rattle.sm_registers.specs.declared.sticky.TheConstants.{TX_STALL, RX_STALL}
 use Rattle.sm_registers.specs.Queues.{Queues}
 use Rattle.sm_registers.specs.Rules.{writes_pc, is_exec, fills_osr, holds, waits_for_tx, is_pull, bits_out, raises}
-use Rattle.sm_registers.specs.Effects.{Effect, quiet, stall, starves, is_due, jmp_effect, wait_effect, in_effect, isr_emptied, autopushed, with_bits_in, with_bits_out, out_to, out_effect, push_effect, pulled, pull_effect, mov_to, mov_effect, irq_effect, set_effect, effect_of}
+use Rattle.sm_registers.specs.Effects.{Effect, finished, stall, starves, is_due, jmp_effect, wait_effect, in_effect, isr_emptied, autopushed, with_bits_in, with_bits_out, out_to, out_effect, push_effect, pulled, pull_effect, mov_to, mov_effect, irq_effect, set_effect, effect_of}
 
 -- the flags of a stall
 abbrev pub stall_flags : Act → Queues → ℕ
@@ -108,12 +108,12 @@ does_where a s v q r true x y h k = h refl
 does_where a s v q r false x y h k = k refl
 
 -- it finishes, and does nothing else
-does_nothing : (a : Act) (s : MachineSetup) (v : View) (q : Queues) (r : Registers) → is_exec a ≡ false → Does a s v q r (quiet r)
+does_nothing : (a : Act) (s : MachineSetup) (v : View) (q : Queues) (r : Registers) → is_exec a ≡ false → Does a s v q r (finished r)
 does_nothing a s v q r h = search (rules, own_none, own_out, own_set)
 
 does_met :
     (polarity : Bool) (source : WaitSource) (index : ℕ) (s : MachineSetup) (v : View) (q : Queues) (r : Registers) (flag : ℕ)
-    → Does (Wait polarity source index) s v q r (record (quiet r) { clears = flag })
+    → Does (Wait polarity source index) s v q r (record (finished r) { clears = flag })
 does_met polarity source index s v q r flag = search (rules, own_none, own_out, own_set)
 
 does_unmet :
@@ -206,8 +206,8 @@ does_autopushed source n s v q r x pc delay pending count fits late =
       direction = own_none s;
       still = λ t _. ap (λ x. record (stall x) { sticky = RX_STALL }) (late t);
     } in
-    let given : q.rx_full ≡ false → Does (In source n) s v q r (record (quiet (isr_emptied x)) { word = Some x.isr }) = λ room. search (rules, own_none, own_out, own_set) in
-    let kept : Does (In source n) s v q r (quiet x) = search (rules, own_none, own_out, own_set) in
+    let given : q.rx_full ≡ false → Does (In source n) s v q r (record (finished (isr_emptied x)) { word = Some x.isr }) = λ room. search (rules, own_none, own_out, own_set) in
+    let kept : Does (In source n) s v q r (finished x) = search (rules, own_none, own_out, own_set) in
     does_if _ s v q r _ _ _ (does_where _ s v q r _ _ _ (λ _. full) given) kept
 
 does_in :
@@ -218,12 +218,12 @@ does_in source n s v q r false word h = does_autopushed source n s v q r (with_b
 
 does_given :
     (if_full block : Bool) (s : MachineSetup) (v : View) (q : Queues) (r : Registers) → not q.rx_full ≡ true
-    → Does (Push if_full block) s v q r (record (quiet (isr_emptied r)) { word = Some r.isr })
+    → Does (Push if_full block) s v q r (record (finished (isr_emptied r)) { word = Some r.isr })
 does_given if_full block s v q r h = let room = not-true q.rx_full h in search (rules, own_none, own_out, own_set)
 
 does_lost :
     (if_full block : Bool) (s : MachineSetup) (v : View) (q : Queues) (r : Registers)
-    → Does (Push if_full block) s v q r (record (quiet (isr_emptied r)) { sticky = RX_STALL })
+    → Does (Push if_full block) s v q r (record (finished (isr_emptied r)) { sticky = RX_STALL })
 does_lost if_full block s v q r = search (rules, own_none, own_out, own_set)
 
 does_full :
@@ -233,7 +233,7 @@ does_full if_full block s v q r = search (rules, own_none, own_out, own_set)
 
 does_flag :
     (clear waits : Bool) (index : ℕ) (s : MachineSetup) (v : View) (q : Queues) (r : Registers) (clears sets : ℕ)
-    → Does (Irq clear waits index) s v q r (record (quiet r) { clears = clears; sets = sets })
+    → Does (Irq clear waits index) s v q r (record (finished r) { clears = clears; sets = sets })
 does_flag clear waits index s v q r clears sets = search (rules, own_none)
 
 does_raise :

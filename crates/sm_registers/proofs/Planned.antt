@@ -9,16 +9,16 @@ use Rattle.sm_registers.specs.declared.plan.Plan.{Plan}
 use Rattle.sm_registers.specs.declared.plan.Plan.TheVariants.{Jump, CountX, CountY, Set, Out, Other, Whole}
 use Rattle.sm_registers.specs.declared.registers.Registers.{Registers}
 use Rattle.sm_registers.specs.View.{View}
-use Rattle.sm_registers.specs.Effects.{Effect, quiet, jmp_effect, out_effect, set_effect, bits_out_to, effect_of}
+use Rattle.sm_registers.specs.Effects.{Effect, finished, jmp_effect, out_effect, set_effect, bits_out_to, effect_of}
 use Rattle.sm_registers.specs.Plans.{plan_of}
 use Rattle.sm_registers.specs.Queues.{Queues}
 
 -- what a plan of its own says of the effect
 abbrev pub HasEffect : Plan → MachineSetup → View → Registers → Effect → Type 0
-HasEffect (Jump target) s v r e = record (quiet r) { jump = Some target } ≡ e
+HasEffect (Jump target) s v r e = record (finished r) { jump = Some target } ≡ e
 HasEffect (CountX target) s v r e = jmp_effect condition.XDecrement target s v r ≡ e
 HasEffect (CountY target) s v r e = jmp_effect condition.YDecrement target s v r ≡ e
-HasEffect (Set pins bits) s v r e = record (quiet r) { level = (pins, bits) } ≡ e
+HasEffect (Set pins bits) s v r e = record (finished r) { level = (pins, bits) } ≡ e
 HasEffect (Out destination count) s v r e = bits_out_to destination count s r ≡ e
 HasEffect Other s v r e = Unit
 HasEffect Whole s v r e = Unit

@@ -14,7 +14,7 @@ use Rattle.sm_registers.specs.View.{View}
 use Rattle.sm_registers.specs.declared.intent.Intent.{Intent}
 use Rattle.sm_registers.specs.Queues.{Queues}
 use Rattle.sm_registers.specs.Rules.{current_act, HasSideSet, HoldsOrGives}
-use Rattle.sm_registers.specs.Effects.{Effect, quiet, stall, is_up, in_word, with_bits_in, in_effect, autopushed, irq_effect, effect_of}
+use Rattle.sm_registers.specs.Effects.{Effect, finished, stall, is_up, in_word, with_bits_in, in_effect, autopushed, irq_effect, effect_of}
 use Rattle.sm_registers.specs.Tick.{current_word, side_writes, tick_delay, tick_by, tick_of}
 use Rattle.sm_registers.proofs.Taken.{after_keeps}
 use Rattle.sm_registers.proofs.Ticks.{op_now, effect_now, in_delay, at_rest, stalled_is, sets_is, word_is, rest_by}
@@ -83,11 +83,11 @@ irq_first s v q r index is left first =
       sets_is s v q r left ∙ ap (λ e. e.sets) same ∙ ap (λ e. e.sets) here,
     )
 
-stalls_while : (b : Bool) (r : Registers) → (cond b (stall r) (quiet r)).stalled ≡ b
+stalls_while : (b : Bool) (r : Registers) → (cond b (stall r) (finished r)).stalled ≡ b
 stalls_while true r = refl
 stalls_while false r = refl
 
-raises_none : (b : Bool) (r : Registers) → (cond b (stall r) (quiet r)).sets ≡ 0
+raises_none : (b : Bool) (r : Registers) → (cond b (stall r) (finished r)).sets ≡ 0
 raises_none true r = refl
 raises_none false r = refl
 
@@ -99,7 +99,7 @@ unfolding irq_effect
 irq_late s v q r index is left begun =
     let same = irq_now s v q r false true index is in
     let up : Bool = is_up v.flags.up (flag_of index s.id) in
-    let here : irq_effect false true index s v r ≡ cond up (stall r) (quiet r) = rw begun refl in (
+    let here : irq_effect false true index s v r ≡ cond up (stall r) (finished r) = rw begun refl in (
       stalled_is s v q r left ∙ ap (λ e. e.stalled) same ∙ ap (λ e. e.stalled) here ∙ stalls_while up r,
       sets_is s v q r left ∙ ap (λ e. e.sets) same ∙ ap (λ e. e.sets) here ∙ raises_none up r,
     )

@@ -1,7 +1,7 @@
 -- What each of the nine instructions does in a tick, one function each: what it reads, when it stalls, what it does.
 -- What they share, the PC's next step, side-set, delay and refill, is in Tick.
 --   Effect               what an instruction does
---   quiet, stall         effects that do nothing but what they did to the registers
+--   finished, stall      effects that do nothing but what they did to the registers
 --   jmp_effect .. set_effect     the instructions
 --   effect_of            that of any act
 use Rattle.std.specs.Prelude.{ℕ, ◌+◌, ◌-◌, ◌/◌, ◌%◌, ◌^◌, ◌==◌, nat_lt, nat_le, min, Bool, true, false, not, ◌&&◌, ◌||◌, if◌then◌else◌, Option, Some, None}
@@ -59,8 +59,8 @@ pub record Effect : Type 0 where
   pub sticky : ℕ
 
 -- it finishes, and does nothing else than what it did to the registers
-abbrev pub quiet : Registers → Effect
-quiet r = record {
+abbrev pub finished : Registers → Effect
+finished r = record {
   stalled = false;
   registers = r;
   jump = None;
@@ -76,7 +76,7 @@ quiet r = record {
 
 -- it stalls, and does nothing else than what it did to the registers
 abbrev pub stall : Registers → Effect
-stall r = record (quiet r) { stalled = true }
+stall r = record (finished r) { stalled = true }
 
 -- bit i of a word is 1
 abbrev pub is_up : ℕ → ℕ → Bool
@@ -106,7 +106,7 @@ jumps condition.OsrNotEmpty s v r = nat_lt r.out_count s.pull_threshold
 -- JMP never stalls (section 3.4.2)
 unfoldable pub jmp_effect : Condition → ℕ → MachineSetup → View → Registers → Effect
 jmp_effect c address s v r =
-    record (quiet (counted_down c r)) { jump = if jumps c s v r then Some address else None }
+    record (finished (counted_down c r)) { jump = if jumps c s v r then Some address else None }
 
 -- what a WAIT looks at; a pin is counted from the input base, and pin 0 comes after pin 31
 abbrev pub waited_bit : WaitSource → ℕ → MachineSetup → View → Bool
@@ -127,7 +127,7 @@ has_polarity polarity bit = if polarity then bit else not bit
 unfoldable pub wait_effect : (polarity : Bool) → WaitSource → ℕ → MachineSetup → View → Registers → Effect
 wait_effect polarity source index s v r =
     if has_polarity polarity (waited_bit source index s v)
-    then record (quiet r) { clears = waited_flag polarity source index s }
+    then record (finished r) { clears = waited_flag polarity source index s }
     else stall r
 
 -- the word that an IN takes bits of; pin in_base is bit 0 of the pins (section 3.5.6)
@@ -155,8 +155,8 @@ autopushed s q r =
     if s.autopush && nat_le s.push_threshold r.in_count
     then (if q.rx_full
     then record (stall r) { sticky = RX_STALL }
-    else record (quiet (isr_emptied r)) { word = Some r.isr })
-    else quiet r
+    else record (finished (isr_emptied r)) { word = Some r.isr })
+    else finished r
 
 -- IN shifts in its first tick alone; a later one only pushes (section 3.4.4; that a stall comes after the shift is a
 -- choice of this profile)
@@ -172,14 +172,14 @@ with_bits_out n s r =
 -- Where an OUT's bits go, as a number with zeros above them. PINS and PINDIRS write the whole mapping; ISR gets their
 -- number as its count; PC gets them modulo 32; EXEC gets the low 16 bits (section 3.4.5).
 abbrev pub out_to : OutDestination → (value n : ℕ) → MachineSetup → Registers → Effect
-out_to out_destination.Pins value n s r = record (quiet r) { level = writes_of s.out value }
-out_to out_destination.X value n s r = quiet (record r { x = value })
-out_to out_destination.Y value n s r = quiet (record r { y = value })
-out_to out_destination.Null value n s r = quiet r
-out_to out_destination.Pindirs value n s r = record (quiet r) { direction = writes_of s.out value }
-out_to out_destination.Pc value n s r = record (quiet r) { jump = Some (value % 32) }
-out_to out_destination.Isr value n s r = quiet (record r { isr = value; in_count = n })
-out_to out_destination.Exec value n s r = record (quiet r) { pending = Some (value % 2 ^ 16) }
+out_to out_destination.Pins value n s r = record (finished r) { level = writes_of s.out value }
+out_to out_destination.X value n s r = finished (record r { x = value })
+out_to out_destination.Y value n s r = finished (record r { y = value })
+out_to out_destination.Null value n s r = finished r
+out_to out_destination.Pindirs value n s r = record (finished r) { direction = writes_of s.out value }
+out_to out_destination.Pc value n s r = record (finished r) { jump = Some (value % 32) }
+out_to out_destination.Isr value n s r = finished (record r { isr = value; in_count = n })
+out_to out_destination.Exec value n s r = record (finished r) { pending = Some (value % 2 ^ 16) }
 
 -- TX has no word
 abbrev pub starves : Queues → Bool
@@ -204,9 +204,9 @@ out_effect destination n s q r =
 -- loses its word (section 3.4.6).
 unfoldable pub push_effect : (if_full block : Bool) → MachineSetup → Queues → Registers → Effect
 push_effect if_full block s q r =
-    if if_full && nat_lt r.in_count s.push_threshold then quiet r else
-    if not q.rx_full then record (quiet (isr_emptied r)) { word = Some r.isr } else
-    if block then record (stall r) { sticky = RX_STALL } else record (quiet (isr_emptied r)) { sticky = RX_STALL }
+    if if_full && nat_lt r.in_count s.push_threshold then finished r else
+    if not q.rx_full then record (finished (isr_emptied r)) { word = Some r.isr } else
+    if block then record (stall r) { sticky = RX_STALL } else record (finished (isr_emptied r)) { sticky = RX_STALL }
 
 -- the OSR is full of a new word
 abbrev pub osr_filled : ℕ → Registers → Registers
@@ -220,12 +220,12 @@ pulls_nothing if_empty s r =
 
 -- it takes the front of TX; an empty TX makes it stall, or without Block copy X
 abbrev pub pulled : Option ℕ → (block : Bool) → Registers → Effect
-pulled (Some word) block r = record (quiet (osr_filled word r)) { take = true }
-pulled None block r = if block then record (stall r) { sticky = TX_STALL } else quiet (osr_filled r.x r)
+pulled (Some word) block r = record (finished (osr_filled word r)) { take = true }
+pulled None block r = if block then record (stall r) { sticky = TX_STALL } else finished (osr_filled r.x r)
 
 -- PULL (section 3.4.7)
 unfoldable pub pull_effect : (if_empty block : Bool) → MachineSetup → Queues → Registers → Effect
-pull_effect if_empty block s q r = if pulls_nothing if_empty s r then quiet r else pulled q.front block r
+pull_effect if_empty block s q r = if pulls_nothing if_empty s r then finished r else pulled q.front block r
 
 -- STATUS is all ones where the chosen FIFO's level is below N (section 3.7, EXECCTRL; a disabled FIFO's level is 0)
 abbrev pub status : MachineSetup → Queues → ℕ
@@ -250,13 +250,13 @@ operated mov_operation.Reverse word = reversed_bits word
 -- Where it goes. PINS is the mapping of OUT; ISR is then empty by its count, OSR full; EXEC gets the low 16 bits
 -- (section 3.4.8).
 abbrev pub mov_to : MovDestination → (value : ℕ) → MachineSetup → Registers → Effect
-mov_to mov_destination.Pins value s r = record (quiet r) { level = writes_of s.out value }
-mov_to mov_destination.X value s r = quiet (record r { x = value })
-mov_to mov_destination.Y value s r = quiet (record r { y = value })
-mov_to mov_destination.Exec value s r = record (quiet r) { pending = Some (value % 2 ^ 16) }
-mov_to mov_destination.Pc value s r = record (quiet r) { jump = Some (value % 32) }
-mov_to mov_destination.Isr value s r = quiet (record r { isr = value; in_count = 0 })
-mov_to mov_destination.Osr value s r = quiet (osr_filled value r)
+mov_to mov_destination.Pins value s r = record (finished r) { level = writes_of s.out value }
+mov_to mov_destination.X value s r = finished (record r { x = value })
+mov_to mov_destination.Y value s r = finished (record r { y = value })
+mov_to mov_destination.Exec value s r = record (finished r) { pending = Some (value % 2 ^ 16) }
+mov_to mov_destination.Pc value s r = record (finished r) { jump = Some (value % 32) }
+mov_to mov_destination.Isr value s r = finished (record r { isr = value; in_count = 0 })
+mov_to mov_destination.Osr value s r = finished (osr_filled value r)
 
 -- MOV never stalls (section 3.4.8)
 unfoldable pub mov_effect : MovDestination → MovOperation → MovSource → MachineSetup → View → Queues → Registers → Effect
@@ -267,17 +267,17 @@ mov_effect destination operation source s v q r =
 -- (section 3.4.9)
 unfoldable pub irq_effect : (clear waits : Bool) → ℕ → MachineSetup → View → Registers → Effect
 irq_effect clear waits index s v r =
-    if clear then record (quiet r) { clears = 2 ^ flag_of index s.id } else
-    if not waits then record (quiet r) { sets = 2 ^ flag_of index s.id } else
+    if clear then record (finished r) { clears = 2 ^ flag_of index s.id } else
+    if not waits then record (finished r) { sets = 2 ^ flag_of index s.id } else
     if not r.begun then record (stall r) { sets = 2 ^ flag_of index s.id } else
-    if is_up v.flags.up (flag_of index s.id) then stall r else quiet r
+    if is_up v.flags.up (flag_of index s.id) then stall r else finished r
 
 -- SET never stalls; X and Y get zeros above the five bits (section 3.4.10)
 unfoldable pub set_effect : SetDestination → ℕ → MachineSetup → Registers → Effect
-set_effect set_destination.Pins value s r = record (quiet r) { level = writes_of s.set value }
-set_effect set_destination.X value s r = quiet (record r { x = value })
-set_effect set_destination.Y value s r = quiet (record r { y = value })
-set_effect set_destination.Pindirs value s r = record (quiet r) { direction = writes_of s.set value }
+set_effect set_destination.Pins value s r = record (finished r) { level = writes_of s.set value }
+set_effect set_destination.X value s r = finished (record r { x = value })
+set_effect set_destination.Y value s r = finished (record r { y = value })
+set_effect set_destination.Pindirs value s r = record (finished r) { direction = writes_of s.set value }
 
 -- the effect of any act; a reserved encoding does nothing (choice of this profile)
 unfoldable pub effect_of : Act → MachineSetup → View → Queues → Registers → Effect
@@ -290,4 +290,4 @@ effect_of (Pull if_empty block) s v q r = pull_effect if_empty block s q r
 effect_of (Mov destination operation source) s v q r = mov_effect destination operation source s v q r
 effect_of (Irq clear waits index) s v q r = irq_effect clear waits index s v r
 effect_of (Set destination value) s v q r = set_effect destination value s r
-effect_of Nothing s v q r = quiet r
+effect_of Nothing s v q r = finished r

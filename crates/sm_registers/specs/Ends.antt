@@ -11,7 +11,7 @@ use Rattle.sm_registers.specs.declared.intent.Intent.{Intent}
 use Rattle.sm_registers.specs.declared.outputs.Outputs.{Outputs}
 use Rattle.sm_registers.specs.declared.plan.Side.{Side}
 use Rattle.sm_registers.specs.declared.registers.Registers.{Registers}
-use Rattle.sm_registers.specs.Effects.{Effect, quiet, stall}
+use Rattle.sm_registers.specs.Effects.{Effect, finished, stall}
 use Rattle.sm_registers.specs.Plans.{side_level, side_direction}
 
 -- an effect that wants this of flags and FIFOs
@@ -21,11 +21,11 @@ wanting i e = record e { clears = i.clears; sets = i.sets; take = i.take; word =
 -- that of an instruction which left these registers, wants this and ended so
 abbrev pub effect_by : Registers → Intent → End → Effect
 effect_by r i Stalls = wanting i (stall r)
-effect_by r i GoesOn = wanting i (quiet r)
-effect_by r i (Levels write) = wanting i (record (quiet r) { level = write })
-effect_by r i (Directions write) = wanting i (record (quiet r) { direction = write })
-effect_by r i (Jumps address) = wanting i (record (quiet r) { jump = Some address })
-effect_by r i (Executes word) = wanting i (record (quiet r) { pending = Some word })
+effect_by r i GoesOn = wanting i (finished r)
+effect_by r i (Levels write) = wanting i (record (finished r) { level = write })
+effect_by r i (Directions write) = wanting i (record (finished r) { direction = write })
+effect_by r i (Jumps address) = wanting i (record (finished r) { jump = Some address })
+effect_by r i (Executes word) = wanting i (record (finished r) { pending = Some word })
 
 -- an instruction that ends so stalls
 abbrev pub end_stalls : End → Bool

@@ -67,7 +67,7 @@ pub(crate) fn count_y(address: u8, registers: &mut Registers) -> End
 #[inline(always)]
 fn jump_where(is_taken: bool, address: u8) -> End
     ensures { (r : spec_registers.Registers) → effect_by r no_intent result
-        ≡ record (spec.quiet r) { jump = if is_taken then Some address else None } }
+        ≡ record (spec.finished r) { jump = if is_taken then Some address else None } }
 {
     if is_taken {
         End::Jumps(address)

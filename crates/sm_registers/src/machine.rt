@@ -112,7 +112,7 @@ impl<F: Fifo> Machine<F> {
         )
     }
 
-    /// Makes its next tick where that is simple, and else does nothing. Of a tick that is known to be ready, nothing
+    /// Makes its next tick where that is simple, and else does nothing. Of a machine that is known to be ready, nothing
     /// more is asked. Outside the registers a simple tick does nothing but write pins, over those of the machines
     /// before it.
     #[inline(always)]

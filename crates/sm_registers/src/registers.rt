@@ -3,7 +3,8 @@
 /// The registers of a state machine.
 #[derive(Clone, Copy)]
 pub struct Registers {
-    /// The address of the current instruction: 0 to 31.
+    /// The address of the current instruction, 0 to 31. While a word is pending it is that of the instruction after it,
+    /// unless that word writes PC.
     pub pc: u8,
     /// The scratch register X.
     pub x: u32,

@@ -90,6 +90,7 @@ fn tick_word<F: Fifo>(
     let end = effect_of(reading.op.act, setup, view, fifos, registers, &mut wants);
     let _begins = conclude(end, next, reading.op.delay, registers);
     let refilled = refill(setup, fifos, registers);
+    // Never both: a PULL that takes a word has filled the OSR.
     wants.take = wants.take | refilled;
     Intent::of(Kind::of(begun), end, reading.side.in_tick(begun), wants)
 }

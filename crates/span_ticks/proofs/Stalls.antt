@@ -17,7 +17,7 @@ use Rattle.pin_matrix.specs.declared.span.Span.{Span}
 use Rattle.sm_registers.specs.declared.registers.Registers.{Registers}
 use Rattle.sm_registers.specs.View.{View}
 use Rattle.sm_registers.specs.Queues.{Queues}
-use Rattle.sm_registers.specs.Effects.{Effect, stall, quiet, jmp_effect, wait_effect, in_effect, autopushed, out_to, out_effect, push_effect, pulled, pull_effect, mov_to, mov_effect, irq_effect, set_effect, effect_of}
+use Rattle.sm_registers.specs.Effects.{Effect, stall, finished, jmp_effect, wait_effect, in_effect, autopushed, out_to, out_effect, push_effect, pulled, pull_effect, mov_to, mov_effect, irq_effect, set_effect, effect_of}
 use Rattle.span_step.specs.Contexts.{Context}
 use Rattle.span_step.specs.Outcomes.{ContextOutcome, nothing_done, unknown_levels, unknown_pins, taken, after_count, ways, outcomes, is_wild, may_stall}
 use Rattle.span_ticks.specs.UnderWay.{flow_of}
@@ -90,12 +90,12 @@ stall_pulled None block r = stall_block block r _ _ refl refl refl refl
 stall_pulled (Some word) block r = stall_done block r _ refl
 
 stall_irq : (clear waits begun up : Bool) (r : Registers) (a b c : Effect) → a.stalled ≡ false → b.stalled ≡ false → c.level ≡ (0, 0) → c.direction ≡ (0, 0) → flow_of c.registers ≡ flow_of r
-    → IsStall (not clear && waits) r (cond clear a (cond (not waits) b (cond (not begun) c (cond up (stall r) (quiet r)))))
+    → IsStall (not clear && waits) r (cond clear a (cond (not waits) b (cond (not begun) c (cond up (stall r) (finished r)))))
 stall_irq true waits begun up r a b c ha hb hc dc kc = stall_done false r a ha
 stall_irq false false begun up r a b c ha hb hc dc kc = stall_done false r b hb
 stall_irq false true false up r a b c ha hb hc dc kc = stall_by true r c refl hc dc kc
 stall_irq false true true true r a b c ha hb hc dc kc = stall_by true r (stall r) refl refl refl refl
-stall_irq false true true false r a b c ha hb hc dc kc = stall_done true r (quiet r) refl
+stall_irq false true true false r a b c ha hb hc dc kc = stall_done true r (finished r) refl
 
 pub stalls : (a : Act) (s : MachineSetup) (v : View) (q : Queues) (r : Registers) → IsStall (may_stall a s) r (effect_of a s v q r)
 unfolding effect_of may_stall jmp_effect wait_effect in_effect out_effect push_effect pull_effect mov_effect irq_effect
