@@ -1,4 +1,5 @@
--- Completeness: where the words are taken, the outside is quiet and memory is there, the files alone decide how a call ends.
+-- Completeness: where the words are taken, the outside is quiet and memory is there, the files alone decide how a call
+-- ends.
 use Rattle.std.specs.Prelude.{◌≡◌, ◌≢◌, ◌⊎◌, ℕ, Option, Some, None, List}
 use Rattle.pio_edge.specs.Edge.{Files, Rose, with_bytes}
 use Rattle.fault_lines.specs.declared.fault.File.TheVariants.{Table}
@@ -60,8 +61,8 @@ pub record IsSecondUndone (t : Setup) (found : Option Fault) : Type 0 where
   pub fault : found ≡ Some (fault.SecondUnproved place name refusal)
   pub first : IsFirstRefused t t.spans place name refusal
 
--- where each span of both blocks is provable, all is done; where one isn't, the first such one is named, the first block's before the
--- second's
+-- where each span of both blocks is provable, all is done; where one isn't, the first such one is named, the first
+-- block's before the second's
 pub record EndsByBoth (c : Call) (task : Task) (found : Option Fault) (s t : Setup) : Type 0 where
   pub provable : AreProvable s → AreProvable t → IsDone c task found
   pub first_unprovable : (AreProvable s → ⊥) → IsUndone s found
@@ -94,8 +95,8 @@ pub record IsSharerTold (found : Option Fault) (u : Setup) (sp : Span) (m : ℕ)
   pub named : IsNamedAt u sp place sp.name
   pub fault : found ≡ Some (fault.Unproved place sp.name (Shared m))
 
--- Where another machine may write a pin of the span, the least one is named. Where none may, all is done if the table is closed and
--- good, and else its first flaw is named.
+-- Where another machine may write a pin of the span, the least one is named. Where none may, all is done if the table
+-- is closed and good, and else its first flaw is named.
 pub record EndsByTable (c : Call) (task : Task) (found : Option Fault) (u : Setup) (sp : Span) (rows : List Row) : Type 0 where
   pub shared : (m : ℕ) → IsLeastSharer u sp m → IsSharerTold found u sp m
   pub proved : IsProvedBy u sp rows → IsDone c task found

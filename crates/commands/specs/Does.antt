@@ -1,4 +1,5 @@
--- What the stage does that has a command's task, once the files are read: how it ends, and what the output has then taken.
+-- What the stage does that has a command's task, once the files are read: how it ends, and what the output has then
+-- taken.
 --   Does         all is done, or why not
 --   HasWritten   the text of a task was written
 --   HasLeft      what is written where a span isn't provable
@@ -22,8 +23,9 @@ abbrev pub HasLeft : Task → (before after : Output) → Type 0
 HasLeft (verdicts u) before after = HasWritten (verdicts u) before after
 HasLeft task before after = after ≡ before
 
--- A task is done: its text was written, what it needs of spans is met, and they hold in every run. Or the output failed after a first
--- part of the text; or memory ran out, a span isn't provable, a table has a flaw, or the text is too long, before the first piece.
+-- A task is done: its text was written, what it needs of spans is met, and they hold in every run. Or the output failed
+-- after a first part of the text; or memory ran out, a span isn't provable, a table has a flaw, or the text is too
+-- long, before the first piece.
 abbrev pub Does : Task → (before after : Output) → Result (Unit {0}) Fault → Type 0
 Does task before after (Ok _) = HasWritten task before after × (IsMet task × AllRunsHold task)
 Does task before after (Err fault.Out) =

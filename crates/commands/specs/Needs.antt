@@ -33,7 +33,8 @@ pub record HasFlaw (u : Setup) (sp : Span) (rows : List Row) (flaw : Flaw) : Typ
   pub first : first_flaw u sp rows ≡ Some flaw
   pub unproved : IsClosed u sp rows → IsGood u sp rows → ⊥
 
--- what a task needs of spans: nothing; that each span of a setup, or of two, is provable; that one is; or that its rows prove it
+-- what a task needs of spans: nothing; that each span of a setup, or of two, is provable; that one is; or that its rows
+-- prove it
 abbrev pub IsMet : Task → Type 0
 IsMet (listing text) = Unit {0}
 IsMet (trace u text) = AreProvable u
@@ -42,7 +43,8 @@ IsMet (verdicts u) = AreProvable u
 IsMet (tabled u sp) = IsProvableAlone u sp
 IsMet (rechecked u sp rows) = IsProvedBy u sp rows
 
--- what is asked before anything is written is met; `check` asks its spans, and writes before it ends with the first refusal
+-- what is asked before anything is written is met; `check` asks its spans, and writes before it ends with the first
+-- refusal
 abbrev pub AskedBefore : Task → Type 0
 AskedBefore (verdicts u) = Unit {0}
 AskedBefore task = IsMet task

@@ -11,8 +11,8 @@ use Rattle.commands.specs.Outside.{call_by}
 use Rattle.commands.specs.Promise.{CommandEnds, CommandAsks}
 use Rattle.commands.specs.Worked.{most_worked}
 
--- It ends as promised, has asked the shelf for its files in order, leaves what the shelf holds, and works out no more clocks than it
--- has to. Shelf and output are as they are seen before and after.
+-- It ends as promised, has asked the shelf for its files in order, leaves what the shelf holds, and works out no more
+-- clocks than it has to. Shelf and output are as they are seen before and after.
 pub record Obeys {F O : Type 0} (order : Order) (shelf : ShelfSeen F) (out : SinkSeen O) (shelf_before shelf_after : F) (out_before out_after : O)
     (steps_before steps_after : ℕ) (result : Result (Unit {0}) Fault) : Type 0 where
   pub ends : CommandEnds (asked_by order) (call_by shelf out shelf_before shelf_after out_before out_after) result

@@ -1,4 +1,5 @@
--- What a call has done that ended with status 0: a record for each command, over known files. Each is a law from `Passes`.
+-- What a call has done that ended with status 0: a record for each command, over known files. Each is a law from
+-- `Passes`.
 --   Passed          the files are known, and the command kept its promise, without a fault
 --   AsmPassed ..    what the command then read, wrote, and what holds of it
 use Rattle.std.specs.Prelude.{◌≡◌, ℕ, ◌≤◌, Bool, Option, Some, None, is_some, List, [], length, map, Result}
@@ -54,8 +55,8 @@ pub record Writing (c : Call) (text : List ℕ) : Type 0 where
   pub took : HasTaken c.out_before text c.out_after
   pub shelf : SameShelf c
 
--- `run`: the files give this setup and these lines. It wrote the trace of the samples that stepping gives, clock by clock, and each span
--- of the setup holds in every run.
+-- `run`: the files give this setup and these lines. It wrote the trace of the samples that stepping gives, clock by
+-- clock, and each span of the setup holds in every run.
 pub record RunPassed (c : Call) (files : Files) (source : List ℕ) (config stimulus : Option (List ℕ)) (clocks : ℕ) : Type 0 where
   pub setup : Setup
   pub lines : List Line
@@ -64,8 +65,8 @@ pub record RunPassed (c : Call) (files : Files) (source : List ℕ) (config stim
   pub provable : AreProvable setup
   pub holds : AllHold setup
 
--- `pair`: the files give these two blocks with the lines of each. It wrote the trace of the samples of both, and each span of either holds
--- in every run of both.
+-- `pair`: the files give these two blocks with the lines of each. It wrote the trace of the samples of both, and each
+-- span of either holds in every run of both.
 pub record PairPassed (c : Call) (files : Files) (source config second : List ℕ) (stimulus : Option (List ℕ)) (clocks : ℕ) : Type 0 where
   pub blocks : TwoBlocks
   pub given : pair_at files source config second stimulus ≡ right blocks
@@ -83,8 +84,8 @@ pub record CheckPassed (c : Call) (files : Files) (source : List ℕ) (config : 
   pub provable : AreProvable setup
   pub holds : AllHold setup
 
--- `table`: this is the first span of the name. It wrote the least closed table of it, which is good and fits a table file, and the span
--- holds in every run.
+-- `table`: this is the first span of the name. It wrote the least closed table of it, which is good and fits a table
+-- file, and the span holds in every run.
 pub record TablePassed (c : Call) (files : Files) (source : List ℕ) (config : Option (List ℕ)) (name : List ℕ) : Type 0 where
   pub setup : Setup
   pub span : Span
@@ -96,8 +97,8 @@ pub record TablePassed (c : Call) (files : Files) (source : List ℕ) (config : 
   pub provable : IsProvableAlone setup span
   pub holds : HoldsInEveryRun setup span
 
--- `recheck`: this is the first span of the name, and these are the rows of the table file. They are closed and good, no other machine may
--- write a pin of the span, and it holds in every run, whoever made the table.
+-- `recheck`: this is the first span of the name, and these are the rows of the table file. They are closed and good, no
+-- other machine may write a pin of the span, and it holds in every run, whoever made the table.
 pub record RecheckPassed (c : Call) (files : Files) (source : List ℕ) (config : Option (List ℕ)) (name file : List ℕ) : Type 0 where
   pub setup : Setup
   pub span : Span
@@ -122,15 +123,16 @@ pub record ReceivePassed (c : Call) (files : Files) (source : List ℕ) (config 
   pub wrote : Writing c (frames_text (frames bit (is_high (first_run setup).state.levels pin)
       (levels_of pin (samples (first_run setup) lines clocks))))
 
--- `inspect`: the files give this setup and these lines. It wrote the trace of what stepping has inside the block, clock by clock, with a
--- scope for each configured machine. No span is asked.
+-- `inspect`: the files give this setup and these lines. It wrote the trace of what stepping has inside the block, clock
+-- by clock, with a scope for each configured machine. No span is asked.
 pub record InspectPassed (c : Call) (files : Files) (source : List ℕ) (config stimulus : Option (List ℕ)) (clocks : ℕ) : Type 0 where
   pub setup : Setup
   pub lines : List Line
   pub given : prepared_at files source config stimulus ≡ right (setup, lines)
   pub wrote : Writing c (inside_text (map is_some setup.machines) (insides (first_run setup) lines clocks))
 
--- `uart`: these are the bytes of the file. It wrote the line of each byte that is sent to its end within the clocks, in order.
+-- `uart`: these are the bytes of the file. It wrote the line of each byte that is sent to its end within the clocks, in
+-- order.
 pub record UartPassed (c : Call) (files : Files) (send : List ℕ) (divider clocks : ℕ) : Type 0 where
   pub bytes : List ℕ
   pub given : read_at Send (get files send) ≡ right bytes

@@ -1,4 +1,5 @@
--- The fault of a span that isn't provable, and of a table with a flaw; and what it means that the text of a table is written.
+-- The fault of a span that isn't provable, and of a table with a flaw; and what it means that the text of a table is
+-- written.
 use Rattle.std.specs.Prelude.{◌≡◌, ◌⊎◌, ℕ, ◌<◌, ◌≤◌, List, Result, Err, length}
 use Rattle.pin_matrix.specs.declared.span.Span.{Span}
 use Rattle.span_verdict.specs.declared.table_flaw.Flaw.{Flaw}
@@ -18,7 +19,8 @@ IsRefusalOf place sp why e = (e ≡ fault.Unproved place sp.name why) ⊎ (e ≡
 abbrev pub IsFlawOf : (place : ℕ) → Span → Flaw → Fault → Type 0
 IsFlawOf place sp flaw e = (e ≡ fault.Flaw place sp.name flaw) ⊎ (e ≡ fault.Memory)
 
--- a text that is no longer than a table file may be was written, or why not; a longer one was told, and nothing is written
+-- a text that is no longer than a table file may be was written, or why not; a longer one was told, and nothing is
+-- written
 abbrev pub TellsText : Output → Output → List ℕ → Result (Unit {0}) Fault → Type 0
 TellsText before after text result =
     ((length text ≤ limit file.Table) × Writes before after text result)

@@ -44,8 +44,9 @@ use Rattle.stages.specs.Fetching.{Slot, name_in}
 use Rattle.commands.specs.Outside.{Call}
 use Rattle.stages.specs.declared.pair.TwoBlocks.{TwoBlocks}
 
--- What the files have a command do: write a text; write a text where each span of a setup, or of two, is provable; write the lines of the
--- verdicts on the spans of a setup; write the table of a span where it is provable; or tell that a table proves a span.
+-- What the files have a command do: write a text; write a text where each span of a setup, or of two, is provable;
+-- write the lines of the verdicts on the spans of a setup; write the table of a span where it is provable; or tell that
+-- a table proves a span.
 pub data Task : Type 0 where
   listing : List ℕ → Task
   trace : Setup → List ℕ → Task
@@ -66,13 +67,14 @@ twin_start p = first_twin p.own p.first p.second
 unfoldable pub twin_trace_text : TwinRun → (first second : List Line) → ℕ → List ℕ
 twin_trace_text start first second clocks = twin_text (twin_samples start first second clocks)
 
--- the text of what is inside the block of a setup in so many clocks, with the lines of a stimulus: it has a scope for each machine that is
--- configured
+-- the text of what is inside the block of a setup in so many clocks, with the lines of a stimulus: it has a scope for
+-- each machine that is configured
 unfoldable pub inspected_text : Setup → List Line → ℕ → List ℕ
 inspected_text s lines clocks = inside_text (map is_some s.machines) (insides (first_run s) lines clocks)
 
--- What a span measures in so many clocks from a start, with the lines of a stimulus: every pair of its edges, or those that it speaks
--- of where it speaks not of every one, up to where X or Y isn't as it assumes. Before clock 0 the pins are the start's.
+-- What a span measures in so many clocks from a start, with the lines of a stimulus: every pair of its edges, or those
+-- that it speaks of where it speaks not of every one, up to where X or Y isn't as it assumes. Before clock 0 the pins
+-- are the start's.
 abbrev pub seen_in : Run → Span → List Line → ℕ → SeenDistances
 seen_in start sp lines clocks =
     if is_selective sp
@@ -88,11 +90,13 @@ unfoldable pub received_text : Run → (pin bit : ℕ) → List Line → ℕ →
 received_text start pin bit lines clocks =
     frames_text (frames bit (is_high start.state.levels pin) (levels_of pin (samples start lines clocks)))
 
--- the line of each byte that the transmitter sends in so many clocks of a run that feeds it these bytes: byte j at its clock
+-- the line of each byte that the transmitter sends in so many clocks of a run that feeds it these bytes: byte j at its
+-- clock
 unfoldable pub sent_text : (divider : ℕ) → (bytes : List ℕ) → (clocks : ℕ) → List ℕ
 sent_text divider bytes clocks = frames_text (frames_fed divider clocks 0 bytes)
 
--- what each command reads, and what it has to do with it; `check`, `table` and `shares` read what a run without a stimulus reads
+-- what each command reads, and what it has to do with it; `check`, `table` and `shares` read what a run without a
+-- stimulus reads
 abbrev pub plan_for : Asked → Plan Task
 plan_for (asm name) = made_into (source_plan name) (λ programs. listing (listing_text programs))
 plan_for (run source config stimulus clocks) =

@@ -77,7 +77,7 @@ fn tell_recheck<O: Sink>(
 }
 
 /// What is wrong with a table first. Where nothing is, it proves the span, so the span holds in every run.
-// The law of provable spans is cited at its call, and used where there is no flaw: the two answers are two goals.
+// The match gives back what it takes, so that each answer is a goal: where there is no flaw, the law's clause is there.
 fn first_flaw(setup: &Setup, span: &Span, table: &Table) -> Option<Flaw>
     requires configured { IsSome (slice_index_or setup.now.machines span.now.machine None) }
     requires alone { IsUnshared setup.now span.now }

@@ -1,4 +1,5 @@
--- Stages one after the other: what one of them fails with, the whole fails with, and what all of them give, the whole gives.
+-- Stages one after the other: what one of them fails with, the whole fails with, and what all of them give, the whole
+-- gives.
 use Rattle.std.proofs.Common.{◌≡◌, ◌∙◌, ℕ, true, Option, Some, None, IfSome, List, [], ◌∷◌, ◌++◌, Result, Ok, Err, refl, sym, ap, subst, append-nil}
 use Rattle.pio_edge.specs.Count.{Faults, failed_at}
 use Rattle.pio_edge.specs.Edge.{Files}

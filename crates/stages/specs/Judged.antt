@@ -1,5 +1,5 @@
--- What the files of a command come to: bytes within their limit, programs, words, a setup, the lines of a stimulus; or the first
--- fault in the order of reading.
+-- What the files of a command come to: bytes within their limit, programs, words, a setup, the lines of a stimulus; or
+-- the first fault in the order of reading.
 use Rattle.std.specs.Prelude.{ℕ, nat_lt, Bool, true, false, if◌then◌else◌, Option, Some, None, List, [], length, Result, Ok, Err}
 use Rattle.std.specs.FinMap.{get}
 use Rattle.pio_edge.specs.Edge.{Files}
@@ -150,7 +150,8 @@ two_blocks first second lines = record {
   second_lines = lines.1;
 }
 
--- the setups of both blocks and the lines of each: source, configuration, second configuration and stimulus, in this order
+-- the setups of both blocks and the lines of each: source, configuration, second configuration and stimulus, in this
+-- order
 unfoldable pub pair_at : Files → (source config second : List ℕ) → (stimulus : Option (List ℕ)) → Judged TwoBlocks
 pair_at files source config second stimulus =
     and_then (source_at files source) (λ programs. and_then (config_at files config programs) (λ first.

@@ -10,7 +10,8 @@ use Rattle.fault_lines.specs.declared.fault.Fault.{Fault}
 use Rattle.fault_lines.specs.declared.fault.Fault.TheVariants as fault
 use Rattle.stages.specs.Spans.{AreProvable, IsFirstRefused}
 
--- Each span of both holds in every run of both: whichever pins the second owns, and whatever the stimuli and the length.
+-- Each span of both holds in every run of both: whichever pins the second owns, and whatever the stimuli and the
+-- length.
 pub record AllHoldInPairs (s t : Setup) : Type 0 where
   pub first : (own : ℕ) (lines others : List Line) (n : ℕ) → AllByRecursion (λ sp. HoldsInFirst sp own s t lines others n) s.spans
   pub second : (own : ℕ) (lines others : List Line) (n : ℕ) → AllByRecursion (λ sp. HoldsInSecond sp own s t lines others n) t.spans
@@ -22,8 +23,8 @@ AreSecondAsked t (Err (fault.SecondUnproved place name refusal)) = IsFirstRefuse
 AreSecondAsked t (Err fault.Memory) = Unit {0}
 AreSecondAsked t (Err e) = ⊥
 
--- How a command ends that asks the spans of both: each is provable and holds in every run of both, or the first one that isn't is
--- told. Those of the first block come first.
+-- How a command ends that asks the spans of both: each is provable and holds in every run of both, or the first one
+-- that isn't is told. Those of the first block come first.
 abbrev pub AreBothAsked : (s t : Setup) → Result (Unit {0}) Fault → Type 0
 AreBothAsked s t (Ok done) = (AreProvable s × AreProvable t) × AllHoldInPairs s t
 AreBothAsked s t (Err (fault.Unproved place name refusal)) = IsFirstRefused s s.spans place name refusal

@@ -35,8 +35,8 @@ AreProvable u = AllByRecursion (IsProvableAlone u) u.spans
 abbrev pub AllHold : Setup → Type 0
 AllHold u = AllByRecursion (HoldsInEveryRun u) u.spans
 
--- Why a span isn't provable: the first bad context of the least closed table, which is bad for this cause in every closed
--- one; or the least other machine that may write a pin of the span.
+-- Why a span isn't provable: the first bad context of the least closed table, which is bad for this cause in every
+-- closed one; or the least other machine that may write a pin of the span.
 abbrev pub IsRefused : Setup → Span → Refusal → Type 0
 IsRefused u sp (Unproved k cause) = IsUnproved u sp k cause
 IsRefused u sp (Shared m) = IsLeastSharer u sp m

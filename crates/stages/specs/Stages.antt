@@ -45,7 +45,8 @@ pub record Plan (X : Type 0) : Type 0 where
   pub slots : List Slot
   pub reaches : Files → File → Bool
 
--- a stage that reads ends with a fault: one failed fetch, of a file that it comes to; out of memory; or the fault of the files
+-- a stage that reads ends with a fault: one failed fetch, of a file that it comes to; out of memory; or the fault of
+-- the files
 abbrev pub ReadFails : {X : Type 0} → Shelved → Plan X → Fault → Type 0
 ReadFails shelf plan (fault.Shelf role) =
     HasSuch (name_in plan.slots role) (λ name. shelf.after ≡ failed_at name shelf.before)
@@ -58,14 +59,15 @@ ReadFails shelf plan (fault.SecondUnproved place name refusal) = ⊥
 ReadFails shelf plan (fault.Flaw place name flaw) = ⊥
 ReadFails shelf plan e = (shelf.after ≡ shelf.before) × IfSome shelf.files (λ files. plan.comes_to files ≡ wrong e)
 
--- a stage that reads gives what the files come to, seen by a view, without a fault of the shelf; else it ends with its cause
+-- a stage that reads gives what the files come to, seen by a view, without a fault of the shelf; else it ends with its
+-- cause
 abbrev pub Reads : {X Y : Type 0} → (Y → X) → Shelved → Plan X → Result Y Fault → Type 0
 Reads view shelf plan (Ok y) =
     (shelf.after ≡ shelf.before) × IfSome shelf.files (λ files. plan.comes_to files ≡ right (view y))
 Reads view shelf plan (Err e) = ReadFails shelf plan e
 
--- A stage keeps its plan: it leaves what the shelf holds, gives what the files come to, seen by a view, or ends with its
--- cause, and asks for its files in order. The shelf is as it is seen before and after.
+-- A stage keeps its plan: it leaves what the shelf holds, gives what the files come to, seen by a view, or ends with
+-- its cause, and asks for its files in order. The shelf is as it is seen before and after.
 pub record KeepsPlan {F X Y : Type 0} (seen : ShelfSeen F) (plan : Plan X) (view : Y → X) (before after : F) (result : Result Y Fault) : Type 0 where
   pub same : seen.holds after ≡ seen.holds before
   pub stage : Reads view (shelved (seen.holds before) (seen.faults before) (seen.faults after)) plan result
