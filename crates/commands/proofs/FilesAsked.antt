@@ -8,7 +8,7 @@ use Rattle.fault_lines.specs.declared.fault.File.TheVariants as file
 use Rattle.fault_lines.specs.declared.fault.Fault.{Fault}
 use Rattle.fault_lines.specs.declared.fault.Fault.TheVariants as fault
 use Rattle.command_line.specs.Words.{Asked, table, Asks as WordsAsk, IsWithinRange, WordsAreRefused}
-use Rattle.stages.specs.Fetching.{Slot, slot, fetches_of, is_role, run_slots, AsksUntil}
+use Rattle.stages.specs.Fetching.{FileSlot, slot, fetches_of, is_role, run_slots, AsksUntil}
 use Rattle.stages.proofs.Asking.{part_all, part_none}
 use Rattle.commands.specs.Does.{Does}
 use Rattle.commands.specs.Outside.{Call}
@@ -21,7 +21,7 @@ use Rattle.commands.proofs.WordsWanted.{wanted_as_read, refused_wants_nothing}
 
 -- ---- a stage that reads fails
 
-files_unread : (slots : List Slot) (before after : List Fetched) (e : Fault) → AsksUntil slots before after e → AsksTo slots before after e
+files_unread : (slots : List FileSlot) (before after : List Fetched) (e : Fault) → AsksUntil slots before after e → AsksTo slots before after e
 files_unread slots before after (fault.Unproved place name refusal) h = absurd h
 files_unread slots before after (fault.SecondUnproved place name refusal) h = absurd h
 files_unread slots before after (fault.Flaw place name flaw) h = absurd h
@@ -33,7 +33,7 @@ abbrev either : Bool → Bool → Bool
 either true b = true
 either false b = b
 
-abbrev have_table : List Slot → Bool
+abbrev have_table : List FileSlot → Bool
 have_table [] = false
 have_table (s ∷ slots) = either (is_role s.role file.Table) (have_table slots)
 
@@ -41,7 +41,7 @@ either_true : (b : Bool) → either b true ≡ true
 either_true true = refl
 either_true false = refl
 
-has_table : (earlier later : List Slot) (name : Option (List ℕ)) → have_table (earlier ++ slot file.Table name ∷ later) ≡ true
+has_table : (earlier later : List FileSlot) (name : Option (List ℕ)) → have_table (earlier ++ slot file.Table name ∷ later) ≡ true
 has_table [] later name = refl
 has_table (s ∷ earlier) later name =
     ap (λ (b : Bool). either (is_role s.role file.Table) b) (has_table earlier later name) ∙ either_true (is_role s.role file.Table)
@@ -69,7 +69,7 @@ too_long a c role before after asks h = h
 
 -- ---- all files were asked, and the task was done or not
 
-files_asked : (slots : List Slot) (task : Task) (before after : List Fetched) (from to : Output) (r : Result (Unit {0}) Fault) → (HasLongText task → ⊥)
+files_asked : (slots : List FileSlot) (task : Task) (before after : List Fetched) (from to : Output) (r : Result (Unit {0}) Fault) → (HasLongText task → ⊥)
     → after ≡ before ++ fetches_of slots → Does task from to r → AsksFiles slots before after r
 files_asked slots task before after from to (Ok done) short h d = h
 files_asked slots task before after from to (Err fault.Out) short h d = h
@@ -80,7 +80,7 @@ files_asked slots task before after from to (Err (fault.Flaw place name flaw)) s
 files_asked slots task before after from to (Err (fault.TooLong file.Table)) short h d = absurd (short d.0.0)
 files_asked slots task before after from to (Err e) short h d = absurd d
 
-table_asked : (slots : List Slot) (task : Task) (before after : List Fetched) (from to : Output) (r : Result (Unit {0}) Fault)
+table_asked : (slots : List FileSlot) (task : Task) (before after : List Fetched) (from to : Output) (r : Result (Unit {0}) Fault)
     → after ≡ before ++ fetches_of slots → Does task from to r → TableAsks slots before after r
 table_asked slots task before after from to (Ok done) h d = h
 table_asked slots task before after from to (Err fault.Out) h d = h

@@ -49,7 +49,7 @@ unread order shelf out view before after o steps e k = record {
   worked = omega arith;
 }
 
--- a task that the files come to is such
+-- a task that the files come to satisfies the property
 if_right : (j : Judged Task) (task : Task) (P : Task → Type 0) → j ≡ right task → P task → IfRight j P
 if_right j task P e p = subst (λ (k : Judged Task). IfRight k P) (sym e) p
 

@@ -18,11 +18,11 @@ use Rattle.fault_lines.specs.declared.fault.Fault.{Fault}
 use Rattle.fault_lines.specs.declared.fault.Fault.TheVariants as fault
 use Rattle.fault_lines.specs.Output.{Output}
 use Rattle.stages.specs.Named.{named_from}
-use Rattle.stages.specs.Pairs.{AreBothAsked}
-use Rattle.stages.specs.Spans.{AreAsked, AreVerdicts, IsProvableAlone, verdict_text}
+use Rattle.stages.specs.Pairs.{AreBothRequired}
+use Rattle.stages.specs.Spans.{AreRequired, AreVerdicts, IsProvableAlone, verdict_text}
 use Rattle.stages.proofs.Naming.{found_named}
 use Rattle.commands.specs.Does.{Does, HasWritten}
-use Rattle.commands.specs.Needs.{AskedBefore, AllRunsHold, IsMet, IsNamedAt, IsProvedBy}
+use Rattle.commands.specs.Needs.{RequiredBefore, AllRunsHold, IsMet, IsNamedAt, IsProvedBy}
 use Rattle.commands.specs.Tasks.{Task, listing, trace, twin_trace, verdicts, tabled, rechecked, HasText}
 use Rattle.commands.specs.Written.{HasTaken, Writes}
 use Rattle.commands.specs.Tables.{TellsText}
@@ -33,7 +33,7 @@ use Rattle.commands.specs.Tables.{TellsText}
 pub record WritesTask (task : Task) (text : List ℕ) : Type 1 where
   pub has : (P : List ℕ → Type 0) → P text → HasText task P
   pub met : IsMet task
-  pub asked : AskedBefore task
+  pub asked : RequiredBefore task
   pub hold : AllRunsHold task
 
 pub wrote : (task : Task) (text : List ℕ) (before after : Output) (r : Result (Unit {0}) Fault) → WritesTask task text → Writes before after text r
@@ -50,13 +50,13 @@ listed text before after r w = wrote (listing text) text before after r (record 
 -- ---- spans are asked
 
 -- those of a run
-pub asked_fails : (u : Setup) (text : List ℕ) (out : Output) (e : Fault) → AreAsked u (Err e) → Does (trace u text) out out (Err e)
+pub asked_fails : (u : Setup) (text : List ℕ) (out : Output) (e : Fault) → AreRequired u (Err e) → Does (trace u text) out out (Err e)
 asked_fails u text out fault.Memory h = refl
 asked_fails u text out (fault.Unproved place name refusal) h = (h, refl)
 asked_fails u text out e h = absurd h
 
 -- those of two blocks
-pub both_fail : (s t : Setup) (text : List ℕ) (out : Output) (e : Fault) → AreBothAsked s t (Err e) → Does (twin_trace s t text) out out (Err e)
+pub both_fail : (s t : Setup) (text : List ℕ) (out : Output) (e : Fault) → AreBothRequired s t (Err e) → Does (twin_trace s t text) out out (Err e)
 both_fail s t text out fault.Memory h = refl
 both_fail s t text out (fault.Unproved place name refusal) h = (h, refl)
 both_fail s t text out (fault.SecondUnproved place name refusal) h = (h, refl)
@@ -74,7 +74,7 @@ verdicts_fail u found text before after e v is h = absurd h
 
 -- they were written, and the first span that isn't provable ends the command
 pub verdicts_end : (u : Setup) (found : List (Result Finding Refusal)) (text : List ℕ) (before after : Output) (r : Result (Unit {0}) Fault)
-    → AreVerdicts u u.spans found → text ≡ verdict_text u.spans found → HasTaken before text after → AreAsked u r → r ≢ Err fault.Memory
+    → AreVerdicts u u.spans found → text ≡ verdict_text u.spans found → HasTaken before text after → AreRequired u r → r ≢ Err fault.Memory
     → Does (verdicts u) before after r
 verdicts_end u found text before after r v is h asked memory = ends r asked memory
   where
@@ -85,7 +85,7 @@ verdicts_end u found text before after r v is h asked memory = ends r asked memo
       faults = h.faults;
     }
 
-    ends : (r : Result (Unit {0}) Fault) → AreAsked u r → r ≢ Err fault.Memory → Does (verdicts u) before after r
+    ends : (r : Result (Unit {0}) Fault) → AreRequired u r → r ≢ Err fault.Memory → Does (verdicts u) before after r
     ends (Ok done) asked memory = (written, asked)
     ends (Err (fault.Unproved place name refusal)) asked memory = (asked, written)
     ends (Err fault.Memory) asked memory = absurd (memory refl)

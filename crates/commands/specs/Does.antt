@@ -9,7 +9,7 @@ use Rattle.fault_lines.specs.declared.fault.File.TheVariants.{Table}
 use Rattle.fault_lines.specs.declared.fault.Fault.{Fault}
 use Rattle.fault_lines.specs.declared.fault.Fault.TheVariants as fault
 use Rattle.fault_lines.specs.Output.{Output}
-use Rattle.commands.specs.Needs.{IsMet, AskedBefore, AllRunsHold, IsRefusedBy, IsSecondRefusedBy, IsFlawed}
+use Rattle.commands.specs.Needs.{IsMet, RequiredBefore, AllRunsHold, IsRefusedBy, IsSecondRefusedBy, IsFlawed}
 use Rattle.commands.specs.Tasks.{Task, verdicts, HasText, HasLongText}
 
 -- the output took exactly the text of a task, and handed all of it on
@@ -29,7 +29,7 @@ HasLeft task before after = after ≡ before
 abbrev pub Does : Task → (before after : Output) → Result (Unit {0}) Fault → Type 0
 Does task before after (Ok _) = HasWritten task before after × (IsMet task × AllRunsHold task)
 Does task before after (Err fault.Out) =
-    HasText task (λ text. TakesPrefix before.taken text after.taken) × (AskedBefore task × Rose before.faults after.faults)
+    HasText task (λ text. TakesPrefix before.taken text after.taken) × (RequiredBefore task × Rose before.faults after.faults)
 Does task before after (Err fault.Memory) = after ≡ before
 Does task before after (Err (fault.Unproved place name refusal)) = IsRefusedBy task place name refusal × HasLeft task before after
 Does task before after (Err (fault.SecondUnproved place name refusal)) = IsSecondRefusedBy task place name refusal × (after ≡ before)

@@ -1,6 +1,6 @@
 -- What a task needs of the spans of a setup, besides its text.
 --   IsMet       each span is provable, of one setup or of two; one span is; or a table proves one
---   AskedBefore what of it is asked before anything is written
+--   RequiredBefore what of it is required before anything is written
 --   AllRunsHold what it says of every run
 --   IsRefusedBy the first span that isn't provable, by its place in the setup, and why
 --   IsSecondRefusedBy   the same of a second block
@@ -45,9 +45,9 @@ IsMet (rechecked u sp rows) = IsProvedBy u sp rows
 
 -- what is asked before anything is written is met; `check` asks its spans, and writes before it ends with the first
 -- refusal
-abbrev pub AskedBefore : Task → Type 0
-AskedBefore (verdicts u) = Unit {0}
-AskedBefore task = IsMet task
+abbrev pub RequiredBefore : Task → Type 0
+RequiredBefore (verdicts u) = Unit {0}
+RequiredBefore task = IsMet task
 
 -- the spans hold in every run of the setup, or of two blocks on one set of pins, whatever the stimulus and the length
 abbrev pub AllRunsHold : Task → Type 0

@@ -12,9 +12,9 @@ use Rattle.span_texts.specs.declared.refusal.Refusal.{Refusal}
 use Rattle.command_line.specs.Words.{Asked, run, check, table, recheck, pair}
 use Rattle.stages.specs.Judged.{wrong}
 use Rattle.stages.specs.Stages.{HasSuch}
-use Rattle.stages.specs.Fetching.{Slot, fetches_of, run_slots, AsksUntil}
+use Rattle.stages.specs.Fetching.{FileSlot, fetches_of, run_slots, AsksUntil}
 use Rattle.commands.specs.Outside.{Call, Untouched, SameShelf, SameOut}
-use Rattle.commands.specs.Needs.{IsMet, AskedBefore, AllRunsHold, IsRefusedBy, IsSecondRefusedBy, IsFlawed}
+use Rattle.commands.specs.Needs.{IsMet, RequiredBefore, AllRunsHold, IsRefusedBy, IsSecondRefusedBy, IsFlawed}
 use Rattle.commands.specs.Tasks.{judge, ComesTo, HasText, HasLongText, slots_of, file_in, reaches}
 
 -- the output took exactly the text, and handed all of it on
@@ -66,7 +66,7 @@ pub record ShelfFails (c : Call) (a : Asked) (role : File) : Type 0 where
 -- the output failed, after a first part of the text
 pub record OutFails (c : Call) (a : Asked) : Type 0 where
   pub part : ComesTo c a (λ task. HasText task (λ text. TakesPrefix c.out_before.taken text c.out_after.taken))
-  pub spans : ComesTo c a AskedBefore
+  pub spans : ComesTo c a RequiredBefore
   pub rose : Rose c.out_before.faults c.out_after.faults
   pub shelf : SameShelf c
 
@@ -111,7 +111,7 @@ CommandEnds a c (Err e) = Ends (Some a) c (Some e)
 
 -- What was asked where a command with these files ends with this fault: all of them where it comes after the last file,
 -- as that of a span, a table or the output does, and else what the stage has asked that ends with it.
-abbrev pub AsksTo : List Slot → (before after : List Fetched) → Fault → Type 0
+abbrev pub AsksTo : List FileSlot → (before after : List Fetched) → Fault → Type 0
 AsksTo slots before after (fault.Unproved place name refusal) = after ≡ before ++ fetches_of slots
 AsksTo slots before after (fault.SecondUnproved place name refusal) = after ≡ before ++ fetches_of slots
 AsksTo slots before after (fault.Flaw place name flaw) = after ≡ before ++ fetches_of slots
@@ -119,12 +119,12 @@ AsksTo slots before after fault.Out = after ≡ before ++ fetches_of slots
 AsksTo slots before after e = AsksUntil slots before after e
 
 -- what was asked of these files by a command that ends so
-abbrev pub AsksFiles : List Slot → (before after : List Fetched) → Result (Unit {0}) Fault → Type 0
+abbrev pub AsksFiles : List FileSlot → (before after : List Fetched) → Result (Unit {0}) Fault → Type 0
 AsksFiles slots before after (Ok _) = after ≡ before ++ fetches_of slots
 AsksFiles slots before after (Err e) = AsksTo slots before after e
 
 -- the same of `table`, which has asked for all of them too where its text is too long
-abbrev pub TableAsks : List Slot → (before after : List Fetched) → Result (Unit {0}) Fault → Type 0
+abbrev pub TableAsks : List FileSlot → (before after : List Fetched) → Result (Unit {0}) Fault → Type 0
 TableAsks slots before after (Err (fault.TooLong file.Table)) = after ≡ before ++ fetches_of slots
 TableAsks slots before after result = AsksFiles slots before after result
 

@@ -1,7 +1,7 @@
 -- What a command comes to, from its files alone: a task, or the first fault in the order of reading.
 --   Task        what the files have a command do
 --   plan_for    what a command reads, and its task; judge: the task, or the first fault; file_in: its file in a role
---   HasText     the text of a task is such; ComesTo: the known files give a task that is such
+--   HasText     the text of a task satisfies a property; ComesTo: the known files give a task that does
 use Rattle.std.specs.Prelude.{ℕ, ◌<◌, ◌≤◌, Bool, Option, None, is_some, IfSome, List, [], length, map, if◌then◌else◌}
 use Rattle.std.specs.List.{flat_map}
 use Rattle.pio_edge.specs.Edge.{Files}
@@ -40,7 +40,7 @@ use Rattle.drawn_load.specs.Summaries.{summary_of, summary_text}
 use Rattle.stages.specs.Spans.{HasVerdicts}
 use Rattle.stages.specs.Judged.{Judged, right, IfRight, limit}
 use Rattle.stages.specs.Stages.{Plan, plan_of, made_into, file_plan, source_plan, words_plan, run_plan, pair_plan, span_plan, recheck_plan}
-use Rattle.stages.specs.Fetching.{Slot, name_in}
+use Rattle.stages.specs.Fetching.{FileSlot, name_in}
 use Rattle.commands.specs.Outside.{Call}
 use Rattle.stages.specs.declared.pair.TwoBlocks.{TwoBlocks}
 
@@ -126,7 +126,7 @@ unfoldable pub judge : Files → Asked → Judged Task
 judge files a = (plan_for a).comes_to files
 
 -- the files that a command reads, in the order of reading
-abbrev pub slots_of : Asked → List Slot
+abbrev pub slots_of : Asked → List FileSlot
 slots_of a = (plan_for a).slots
 
 -- the name of the file that a command reads in this role, where it reads one
@@ -137,11 +137,11 @@ file_in a role = name_in (slots_of a) role
 abbrev pub reaches : Files → Asked → File → Bool
 reaches files a role = (plan_for a).reaches files role
 
--- the known files give a task that is such
+-- the known files give a task that satisfies the property
 abbrev pub ComesTo : Call → Asked → (Task → Type 0) → Type 0
 ComesTo c a P = IfSome c.files (λ f. IfRight (judge f a) P)
 
--- the text of the least closed table of a span, which is good, is such
+-- the text of the least closed table of a span, which is good, satisfies the property
 abbrev pub HasTable : Setup → Span → (List ℕ → Type 0) → Type 0
 HasTable u sp P = (rows : List Row) × IsGoodLeast u sp rows × P (table_text rows)
 
@@ -153,7 +153,7 @@ HasShortTable u sp P = HasTable u sp (λ text. (length text ≤ limit Table) × 
 abbrev pub HasLongTable : Setup → Span → Type 0
 HasLongTable u sp = HasTable u sp (λ text. limit Table < length text)
 
--- the text that a task writes is such
+-- the text that a task writes satisfies the property
 abbrev pub HasText : Task → (List ℕ → Type 0) → Type 0
 HasText (listing text) P = P text
 HasText (trace u text) P = P text

@@ -13,7 +13,7 @@ use fault_lines::Fault;
 use fifo_pair::RingFifo;
 use idle_engine::{a_stopped_run_leaves_a_first_part, few_clocks_are_worked_out, simulate_twin};
 use pio_edge::{Shelf, Sink};
-use stages::{TwoBlocks, ask_both_spans, prepare_pair};
+use stages::{TwoBlocks, prepare_pair, require_both};
 use std::alloc::Global;
 use std::sync::ledger::Ledger;
 use step_count::Steps;
@@ -38,7 +38,7 @@ pub fn pair<F: Shelf, O: Sink, L: Ledger>(
 {
     few_clocks_are_worked_out();
     let blocks = prepare_pair(alloc, shelf, files)?;
-    ask_both_spans(alloc, &blocks.first, &blocks.second)?;
+    require_both(alloc, &blocks.first, &blocks.second)?;
     write_pair(alloc, &blocks, clocks, out, steps)
 }
 

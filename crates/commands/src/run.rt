@@ -17,7 +17,7 @@ use fifo_pair::RingFifo;
 use idle_engine::{a_stopped_run_leaves_a_first_part, few_clocks_are_worked_out, simulate};
 use pin_matrix::Setup;
 use pio_edge::{Shelf, Sink};
-use stages::{ask_spans, prepare};
+use stages::{prepare, require_spans};
 use std::alloc::Global;
 use std::sync::ledger::Ledger;
 use step_count::Steps;
@@ -42,7 +42,7 @@ pub fn run<F: Shelf, O: Sink, L: Ledger>(
 {
     few_clocks_are_worked_out();
     let (setup, schedule) = prepare(alloc, shelf, files)?;
-    ask_spans(alloc, &setup)?;
+    require_spans(alloc, &setup)?;
     write_trace(alloc, &setup, &schedule, clocks, out, steps)
 }
 

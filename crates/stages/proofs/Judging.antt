@@ -16,7 +16,7 @@ use Rattle.span_texts.specs.Refusals.{found_by}
 use Rattle.fault_lines.specs.declared.fault.Fault.{Fault}
 use Rattle.fault_lines.specs.declared.fault.Fault.TheVariants as fault
 use Rattle.stages.specs.Configured.{AreConfigured}
-use Rattle.stages.specs.Spans.{IsProvableAlone, AreProvable, AreAsked, AllHold, IsRefused, IsFirstRefused, IsVerdictOn, AreVerdicts, first_refused, IsFirstOf, AreJudged, IsNextVerdict}
+use Rattle.stages.specs.Spans.{IsProvableAlone, AreProvable, AreRequired, AllHold, IsRefused, IsFirstRefused, IsVerdictOn, AreVerdicts, first_refused, IsFirstOf, AreJudged, IsNextVerdict}
 
 -- what holds of each holds of the one at a place
 pub all_at : {X : Type 0} (P : X → Type 0) (xs : List X) (i : ℕ) (d : X) → AllByRecursion P xs → i < length xs → P (get_or xs i d)
@@ -97,7 +97,7 @@ judged_all u spans place found refused le h = subst (λ (l : List Span). AreJudg
     take_whole (s ∷ l) (suc n) le = ap (λ r. s ∷ r) (take_whole l n (omega arith))
 
 -- so its fault is that of a command that asks them
-pub refused_asked : (u : Setup) (e : Fault) → IsFirstOf u u.spans (Some e) → AreAsked u (Err e)
+pub refused_asked : (u : Setup) (e : Fault) → IsFirstOf u u.spans (Some e) → AreRequired u (Err e)
 refused_asked u (fault.Unproved place name r) h = h
 refused_asked u e h = absurd h
 

@@ -11,7 +11,7 @@ use Rattle.fault_lines.specs.declared.fault.Fault.{Fault}
 use Rattle.fault_lines.specs.declared.fault.Fault.TheVariants as fault
 use Rattle.stages.specs.Configured.{AreConfigured}
 use Rattle.stages.specs.Spans.{IsProvableAlone, AreProvable}
-use Rattle.stages.specs.Pairs.{AllHoldInPairs, AreSecondAsked, AreBothAsked}
+use Rattle.stages.specs.Pairs.{AllHoldInPairs, AreSecondRequired, AreBothRequired}
 
 -- the laws of each
 abbrev pub FirstHold : Type 0
@@ -39,7 +39,7 @@ both_hold first second s t c d p q = record {
 
 -- the second's spans are asked where the first's are provable
 pub asked_both : FirstHold → SecondHold → (s t : Setup) (r : Result (Unit {0}) Fault) → AreConfigured s → AreConfigured t → AreProvable s
-    → AreSecondAsked t r → AreBothAsked s t r
+    → AreSecondRequired t r → AreBothRequired s t r
 asked_both first second s t (Ok done) c d p h = ((p, h), both_hold first second s t c d p h)
 asked_both first second s t (Err (fault.SecondUnproved place name refusal)) c d p h = (p, h)
 asked_both first second s t (Err fault.Memory) c d p h = tt

@@ -9,7 +9,7 @@ use Rattle.fault_lines.specs.declared.fault.File.TheVariants as file
 use Rattle.fault_lines.specs.declared.fault.Fault.{Fault}
 use Rattle.fault_lines.specs.declared.fault.Fault.TheVariants as fault
 use Rattle.stages.specs.Judged.{Judged, right, wrong, and_then}
-use Rattle.stages.specs.Fetching.{Slot, slot, fetches_of, name_in, one_slot, AsksUntil}
+use Rattle.stages.specs.Fetching.{FileSlot, slot, fetches_of, name_in, one_slot, AsksUntil}
 use Rattle.stages.specs.Stages.{HasSuch, Plan, ReadFails, KeepsPlan, Shelved, made_into, plan_of, shelved}
 use Rattle.stages.proofs.Asking.{all_after, part_all, asks_first, asks_after}
 
@@ -36,7 +36,7 @@ goes_on {X} files whole part rest j w p = both_told files _ _ _ (λ f e r. e ∙
 -- ---- stages that came out right
 
 -- These files were read and came: the shelf holds what it held, had no fault, and was asked for them in order.
-pub record Went {F : Type 0} (seen : ShelfSeen F) (slots : List Slot) (before after : F) : Type 0 where
+pub record Went {F : Type 0} (seen : ShelfSeen F) (slots : List FileSlot) (before after : F) : Type 0 where
   pub same : seen.holds after ≡ seen.holds before
   pub quiet : seen.faults after ≡ seen.faults before
   pub asked : seen.fetched after ≡ seen.fetched before ++ fetches_of slots
@@ -46,7 +46,7 @@ pub went_nowhere : {F : Type 0} (seen : ShelfSeen F) (shelf : F) → Went seen [
 went_nowhere seen shelf = record { same = refl; quiet = refl; asked = sym (append-nil (seen.fetched shelf)) }
 
 -- and those of one stage more
-pub went_on : {F X Y : Type 0} (seen : ShelfSeen F) (xs : List Slot) (plan : Plan X) (view : Y → X) (y : Y) (before mid after : F)
+pub went_on : {F X Y : Type 0} (seen : ShelfSeen F) (xs : List FileSlot) (plan : Plan X) (view : Y → X) (y : Y) (before mid after : F)
     → Went seen xs before mid → KeepsPlan seen plan view mid after (Ok y) → Went seen (xs ++ plan.slots) before after
 went_on seen xs plan view y before mid after w k = record {
   same = k.same ∙ w.same;
@@ -55,7 +55,7 @@ went_on seen xs plan view y before mid after w k = record {
 }
 
 -- what known files come to after a stage, they came to before it
-pub came_to : {F : Type 0} (seen : ShelfSeen F) (slots : List Slot) (before mid : F) (P : Files → Type 0)
+pub came_to : {F : Type 0} (seen : ShelfSeen F) (slots : List FileSlot) (before mid : F) (P : Files → Type 0)
     → Went seen slots before mid → IfSome (seen.holds mid) P → IfSome (seen.holds before) P
 came_to seen slots before mid P w h = subst (λ (files : Option Files). IfSome files P) w.same h
 
@@ -71,7 +71,7 @@ pub no_memory : {F X Y V W : Type 0} (seen : ShelfSeen F) (part : Plan X) (whole
 no_memory seen part whole view shown v before after same k = record {
   same = k.same;
   stage = k.stage.0;
-  asked = part_all whole.slots _ _ (k.asked ∙ ap (λ (slots : List Slot). seen.fetched before ++ fetches_of slots) same);
+  asked = part_all whole.slots _ _ (k.asked ∙ ap (λ (slots : List FileSlot). seen.fetched before ++ fetches_of slots) same);
 }
 
 -- ---- a stage that fails
@@ -107,7 +107,7 @@ part_fails files before after own name part rest whole e named reached comes h =
     (h.0, goes_on files whole.comes_to part rest (wrong e) comes h.1)
 
 -- and after files that came
-pub fails_after : {F X Y V W : Type 0} (seen : ShelfSeen F) (xs zs : List Slot) (own : File) (name : Option (List ℕ)) (part : Files → Judged X)
+pub fails_after : {F X Y V W : Type 0} (seen : ShelfSeen F) (xs zs : List FileSlot) (own : File) (name : Option (List ℕ)) (part : Files → Judged X)
     (rest : Files → X → Judged Y) (whole : Plan Y) (view : V → X) (shown : W → Y) (before mid after : F) (e : Fault)
     → whole.slots ≡ xs ++ slot own name ∷ zs → ((P : List ℕ → Type 0) → HasSuch name P → HasSuch (name_in whole.slots own) P)
     → IfSome (seen.holds before) (λ f. whole.reaches f own ≡ true) → IfSome (seen.holds before) (λ f. whole.comes_to f ≡ and_then (part f) (rest f))
@@ -118,7 +118,7 @@ fails_after seen xs zs own name part rest whole view shown before mid after e pl
   stage = part_fails (seen.holds before) (seen.faults before) (seen.faults after) own name part rest whole e named reached comes
       (subst (λ (n : Faults). ReadFails (shelved (seen.holds before) n (seen.faults after)) (plan_of part (one_slot own name)) e) w.quiet
       (subst (λ (files : Option Files). ReadFails (shelved files (seen.faults mid) (seen.faults after)) (plan_of part (one_slot own name)) e) w.same k.stage));
-  asked = subst (λ (slots : List Slot). AsksUntil slots (seen.fetched before) (seen.fetched after) e) (sym place)
+  asked = subst (λ (slots : List FileSlot). AsksUntil slots (seen.fetched before) (seen.fetched after) e) (sym place)
       (asks_after xs (slot own name ∷ zs) _ _ _ e w.asked (asks_first (one_slot own name) zs _ _ e k.asked));
 }
 

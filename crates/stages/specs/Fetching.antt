@@ -1,9 +1,9 @@
 -- What a stage asks of the shelf: which files, in which order, and how many bytes of each.
---   Slot        a file that is read: its role, and its name where there is one
+--   FileSlot    a file that is read: its role, and its name where there is one
 --   fetches_of  the fetches of files that all came
 --   AsksUpTo    the files before one were asked, then this one, and no more
 --   FailsAt     the file of a role was asked last, and failed
---   StopsAt     the file of a role was asked last, and came
+--   CameLast    the file of a role was asked last, and came
 --   AsksPart    the first ones of the files were asked, or all
 --   Asks        which of the files were asked, by the end of a stage
 --   name_in     the name of the file in a role
@@ -18,12 +18,12 @@ use Rattle.fault_lines.specs.declared.fault.Fault.TheVariants as fault
 use Rattle.stages.specs.Judged.{limit}
 
 -- A file that is read: its role, and its name. Nothing is asked for a configuration or a stimulus that isn't named.
-pub record Slot : Type 0 where
+pub record FileSlot : Type 0 where
   pub role : File
   pub name : Option (List ℕ)
 
 -- the same, by its parts
-abbrev pub slot : File → Option (List ℕ) → Slot
+abbrev pub slot : File → Option (List ℕ) → FileSlot
 slot role name = record { role = role; name = name }
 
 -- a fetch of a file: one byte more than its limit is asked for, so that its length shows a longer file
@@ -36,50 +36,50 @@ fetch_at role None = []
 fetch_at role (Some name) = fetch_of role name true ∷ []
 
 -- the fetches of files that all came, in order
-abbrev pub fetches_of : List Slot → List Fetched
+abbrev pub fetches_of : List FileSlot → List Fetched
 fetches_of slots = flat_map (λ s. fetch_at s.role s.name) slots
 
 -- the files before this one were asked and came, then these fetches of its own were made, and no more
-pub record AsksUpTo (slots : List Slot) (own : Slot) (last before after : List Fetched) : Type 0 where
-  pub earlier : List Slot
-  pub later : List Slot
+pub record AsksUpTo (slots : List FileSlot) (own : FileSlot) (last before after : List Fetched) : Type 0 where
+  pub earlier : List FileSlot
+  pub later : List FileSlot
   pub place : slots ≡ earlier ++ own ∷ later
   pub asked : after ≡ before ++ (fetches_of earlier ++ last)
 
 -- the file of this role was asked last, and its fetch failed
-pub record FailsAt (slots : List Slot) (role : File) (before after : List Fetched) : Type 0 where
+pub record FailsAt (slots : List FileSlot) (role : File) (before after : List Fetched) : Type 0 where
   pub name : List ℕ
   pub last : AsksUpTo slots (slot role (Some name)) (fetch_of role name false ∷ []) before after
 
 -- the file of this role was asked last, where one is named, and came
-pub record StopsAt (slots : List Slot) (role : File) (before after : List Fetched) : Type 0 where
+pub record CameLast (slots : List FileSlot) (role : File) (before after : List Fetched) : Type 0 where
   pub name : Option (List ℕ)
   pub last : AsksUpTo slots (slot role name) (fetch_at role name) before after
 
 -- the first ones of the files were asked and came, or all of them
-pub record AsksPart (slots : List Slot) (before after : List Fetched) : Type 0 where
-  pub earlier : List Slot
-  pub later : List Slot
+pub record AsksPart (slots : List FileSlot) (before after : List Fetched) : Type 0 where
+  pub earlier : List FileSlot
+  pub later : List FileSlot
   pub place : slots ≡ earlier ++ later
   pub asked : after ≡ before ++ fetches_of earlier
 
 -- What was asked where a stage ends with this fault: the files up to the one at fault, or the first ones where memory
 -- ran out. A span is looked up by its name once the configuration has made the setup. No stage ends otherwise.
-abbrev pub AsksUntil : List Slot → List Fetched → List Fetched → Fault → Type 0
+abbrev pub AsksUntil : List FileSlot → List Fetched → List Fetched → Fault → Type 0
 AsksUntil slots before after fault.Memory = AsksPart slots before after
 AsksUntil slots before after (fault.Shelf role) = FailsAt slots role before after
-AsksUntil slots before after (fault.TooLong role) = StopsAt slots role before after
-AsksUntil slots before after (fault.Words line kind) = StopsAt slots file.Words before after
-AsksUntil slots before after (fault.Source line kind) = StopsAt slots file.Source before after
-AsksUntil slots before after (fault.Config key kind) = StopsAt slots file.Config before after
-AsksUntil slots before after (fault.Second key kind) = StopsAt slots file.Second before after
-AsksUntil slots before after (fault.Stim line kind) = StopsAt slots file.Stimulus before after
-AsksUntil slots before after (fault.Table line kind) = StopsAt slots file.Table before after
-AsksUntil slots before after fault.NoSpan = StopsAt slots file.Config before after
+AsksUntil slots before after (fault.TooLong role) = CameLast slots role before after
+AsksUntil slots before after (fault.Words line kind) = CameLast slots file.Words before after
+AsksUntil slots before after (fault.Source line kind) = CameLast slots file.Source before after
+AsksUntil slots before after (fault.Config key kind) = CameLast slots file.Config before after
+AsksUntil slots before after (fault.Second key kind) = CameLast slots file.Second before after
+AsksUntil slots before after (fault.Stim line kind) = CameLast slots file.Stimulus before after
+AsksUntil slots before after (fault.Table line kind) = CameLast slots file.Table before after
+AsksUntil slots before after fault.NoSpan = CameLast slots file.Config before after
 AsksUntil slots before after e = ⊥
 
 -- what was asked by a stage that ends so: all files where it has no fault
-abbrev pub Asks : {T : Type 0} → List Slot → List Fetched → List Fetched → Result T Fault → Type 0
+abbrev pub Asks : {T : Type 0} → List FileSlot → List Fetched → List Fetched → Result T Fault → Type 0
 Asks slots before after (Ok _) = after ≡ before ++ fetches_of slots
 Asks slots before after (Err e) = AsksUntil slots before after e
 
@@ -97,23 +97,23 @@ is_role file.Send file.Send = true
 is_role role other = false
 
 -- the name of the first of these files in this role
-abbrev pub name_in : List Slot → File → Option (List ℕ)
+abbrev pub name_in : List FileSlot → File → Option (List ℕ)
 name_in [] role = None
 name_in (s ∷ slots) role = if is_role s.role role then s.name else name_in slots role
 
 -- ---- the files in the order of reading
 
 -- one file, where it is named
-abbrev pub one_slot : File → Option (List ℕ) → List Slot
+abbrev pub one_slot : File → Option (List ℕ) → List FileSlot
 one_slot role name = slot role name ∷ []
 
 -- a source, and a configuration and a stimulus where they are named
-abbrev pub run_slots : (source : List ℕ) → (config stimulus : Option (List ℕ)) → List Slot
+abbrev pub run_slots : (source : List ℕ) → (config stimulus : Option (List ℕ)) → List FileSlot
 run_slots source config stimulus =
     slot file.Source (Some source) ∷ slot file.Config config ∷ slot file.Stimulus stimulus ∷ []
 
 -- a source, the configurations of two blocks, and a stimulus where it is named
-abbrev pub pair_slots : (source config second : List ℕ) → (stimulus : Option (List ℕ)) → List Slot
+abbrev pub pair_slots : (source config second : List ℕ) → (stimulus : Option (List ℕ)) → List FileSlot
 pair_slots source config second stimulus =
     slot file.Source (Some source) ∷ slot file.Config (Some config) ∷ slot file.Second (Some second)
     ∷ slot file.Stimulus stimulus ∷ []

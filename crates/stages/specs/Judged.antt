@@ -40,7 +40,7 @@ abbrev pub and_then : {X Y : Type 0} → Judged X → (X → Judged Y) → Judge
 and_then (right x) next = next x
 and_then (wrong e) next = wrong e
 
--- it is right, and its value is such
+-- it is right, and its value satisfies the property
 abbrev pub IfRight : {X : Type 0} → Judged X → (X → Type 0) → Type 0
 IfRight (right x) P = P x
 IfRight (wrong e) P = ⊥

@@ -81,7 +81,7 @@ verdict_text spans found = lines_of (λ sp v. verdict_line [] sp.name v) spans f
 abbrev pub HasVerdicts : Setup → (List ℕ → Type 0) → Type 0
 HasVerdicts u P = (found : List (Result Finding Refusal)) × AreVerdicts u u.spans found × P (verdict_text u.spans found)
 
--- ---- what the stages that ask spans give
+-- ---- what the stages that require spans give
 
 -- the fault of the first span that isn't provable, with its place, its name and why, once this verdict on the span of
 -- this place and name comes after those before it
@@ -109,8 +109,8 @@ pub record IsNextVerdict (u : Setup) (place : ℕ) (sp : Span) (before after : L
   pub first : refused ≡ first_refused earlier place sp.name found
 
 -- how a command ends that asks the spans: each is provable and holds in every run, or the first one that isn't is named
-abbrev pub AreAsked : Setup → Result (Unit {0}) Fault → Type 0
-AreAsked u (Ok done) = AreProvable u × AllHold u
-AreAsked u (Err (fault.Unproved place name refusal)) = IsFirstRefused u u.spans place name refusal
-AreAsked u (Err fault.Memory) = Unit {0}
-AreAsked u (Err e) = ⊥
+abbrev pub AreRequired : Setup → Result (Unit {0}) Fault → Type 0
+AreRequired u (Ok done) = AreProvable u × AllHold u
+AreRequired u (Err (fault.Unproved place name refusal)) = IsFirstRefused u u.spans place name refusal
+AreRequired u (Err fault.Memory) = Unit {0}
+AreRequired u (Err e) = ⊥

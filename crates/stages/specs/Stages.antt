@@ -22,9 +22,9 @@ use Rattle.fault_lines.specs.declared.fault.Fault.TheVariants as fault
 use Rattle.stages.specs.declared.pair.TwoBlocks.{TwoBlocks}
 use Rattle.stages.specs.Judged.{Judged, right, wrong, and_then, read_at, source_at, words_at, setup_at, second_at, schedule_at, schedules_at, prepared_at, pair_at, table_at, span_at, recheck_at}
 use Rattle.stages.specs.Roles.{run_reaches, recheck_reaches, pair_reaches}
-use Rattle.stages.specs.Fetching.{Slot, Asks, name_in, one_slot, run_slots, pair_slots}
+use Rattle.stages.specs.Fetching.{FileSlot, Asks, name_in, one_slot, run_slots, pair_slots}
 
--- there is one, and it is such
+-- there is one, and it satisfies the property
 abbrev pub HasSuch : {X : Type 0} → Option X → (X → Type 0) → Type 0
 HasSuch None P = ⊥
 HasSuch (Some x) P = P x
@@ -42,7 +42,7 @@ shelved files before after = record { files = files; before = before; after = af
 -- what a stage's files come to, the files in the order of reading, and which of them it comes to
 pub record Plan (X : Type 0) : Type 0 where
   pub comes_to : Files → Judged X
-  pub slots : List Slot
+  pub slots : List FileSlot
   pub reaches : Files → File → Bool
 
 -- a stage that reads ends with a fault: one failed fetch, of a file that it comes to; out of memory; or the fault of
@@ -76,7 +76,7 @@ pub record KeepsPlan {F X Y : Type 0} (seen : ShelfSeen F) (plan : Plan X) (view
 -- ---- what each stage reads
 
 -- a plan of files that all are reached
-abbrev pub plan_of : {X : Type 0} → (Files → Judged X) → List Slot → Plan X
+abbrev pub plan_of : {X : Type 0} → (Files → Judged X) → List FileSlot → Plan X
 plan_of comes_to slots = record { comes_to = comes_to; slots = slots; reaches = λ files role. true }
 
 -- one file's bytes

@@ -1,4 +1,4 @@
-//! What a run of two blocks reads before it asks spans: the setups of both, and the lines of a stimulus for each.
+//! What a run of two blocks reads before it requires spans: the setups of both, and the lines of a stimulus for each.
 ghost use Rattle.std.specs.Prelude.{IfOk, option_map};
 ghost use Rattle.stages.specs.Stages.{KeepsPlan, pair_plan};
 ghost use Rattle.stages.specs.Configured.{AreConfigured};

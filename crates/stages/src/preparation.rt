@@ -1,4 +1,4 @@
-//! What a command reads before it asks spans: a setup, and of a run the lines of a stimulus.
+//! What a command reads before it requires spans: a setup, and of a run the lines of a stimulus.
 ghost use Rattle.std.specs.Prelude.{IfOk, None, [], option_map};
 ghost use Rattle.stages.specs.Stages.{KeepsPlan, run_plan};
 ghost use Rattle.stages.specs.Configured.{AreConfigured};

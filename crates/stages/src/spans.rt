@@ -1,6 +1,6 @@
 //! The verdicts on the spans of a setup.
 ghost use Rattle.std.specs.Prelude.{◌≡◌, ◌≢◌, ◌++◌, ◌∷◌, [], IfOk, IsSome, None, Err, slice_index_or};
-ghost use Rattle.stages.specs.Spans.{AreAsked, AreJudged, IsFirstOf, IsNextVerdict, IsVerdictOn};
+ghost use Rattle.stages.specs.Spans.{AreRequired, AreJudged, IsFirstOf, IsNextVerdict, IsVerdictOn};
 ghost use Rattle.stages.specs.Configured.{AreConfigured};
 ghost use Rattle.stages.specs.Spans as spec;
 
@@ -19,11 +19,11 @@ pub struct Verdicts {
     pub refused: Option<Fault>,
 }
 
-/// Asks that each span be provable; then each holds in every run. The machines of the spans are configured. The fault
+/// Requires that each span is provable; then each holds in every run. The machines of the spans are configured. The fault
 /// is that of the first span that isn't provable, or out of memory.
-pub fn ask_spans(alloc: Global, setup: &Setup) -> Result<(), Fault>
+pub fn require_spans(alloc: Global, setup: &Setup) -> Result<(), Fault>
     requires { AreConfigured setup.now }
-    ensures { AreAsked setup.now result }
+    ensures { AreRequired setup.now result }
 {
     let verdicts = judge_spans(alloc, setup)?;
     refuse(setup, verdicts.refused)
@@ -33,7 +33,7 @@ pub fn ask_spans(alloc: Global, setup: &Setup) -> Result<(), Fault>
 pub fn refuse(setup: &Setup, refused: Option<Fault>) -> Result<(), Fault>
     requires configured { AreConfigured setup.now }
     requires first { IsFirstOf setup.now setup.now.spans refused }
-    ensures asked { AreAsked setup.now result }
+    ensures asked { AreRequired setup.now result }
     ensures memory { result ≢ Err Fault.Memory }
 {
     a_provable_span_holds_in_every_run();
