@@ -19,7 +19,7 @@ use Rattle.commands.specs.declared.metered.Metered.{Metered}
 use Rattle.commands.specs.Metered.{seen_of_each, seen_lines}
 use Rattle.commands.specs.Tasks.{measured_text, seen_in}
 use Rattle.span_meter.proofs.PlainSpans.{all_spoken, plain_assumes}
-use Rattle.commands.proofs.SpanLines.{lines_of-each}
+use Rattle.commands.proofs.SpanLines.{span_lines-each}
 
 -- a fresh meter names its pins and its edges
 pub names : (pins : ShownPins) (ends : List SpanEdges) (t : Meters) → HasMeasured pins ends [] t → first_told t.first (watched t.meters) ≡ first_told pins ends
@@ -94,4 +94,4 @@ pub lines_are_text : (start : Run) (spans slice : List Span) (lines : List Line)
     → seen_lines slice (seen_of_each t) ≡ measured_text start spans lines clocks
 unfolding measured_text
 lines_are_text start spans slice lines clocks t seen all =
-    ap₂ seen_lines all seen ∙ lines_of-each (λ sp s. seen_line sp.name s) (λ sp. seen_in start sp lines clocks) spans
+    ap₂ seen_lines all seen ∙ span_lines-each (λ sp s. seen_line sp.name s) (λ sp. seen_in start sp lines clocks) spans

@@ -68,14 +68,14 @@ AreVerdicts u (sp ∷ spans) [] = ⊥
 AreVerdicts u (sp ∷ spans) (found ∷ more) = IsVerdictOn u sp found × AreVerdicts u spans more
 
 -- a line of each span and of what goes with it, in order
-unfoldable pub lines_of : {X : Type 0} → (Span → X → List ℕ) → List Span → List X → List ℕ
-lines_of line [] xs = []
-lines_of line (sp ∷ spans) [] = []
-lines_of line (sp ∷ spans) (x ∷ xs) = line sp x ++ lines_of line spans xs
+unfoldable pub span_lines : {X : Type 0} → (Span → X → List ℕ) → List Span → List X → List ℕ
+span_lines line [] xs = []
+span_lines line (sp ∷ spans) [] = []
+span_lines line (sp ∷ spans) (x ∷ xs) = line sp x ++ span_lines line spans xs
 
 -- the line of the verdict on each span
 abbrev pub verdict_text : List Span → List (Result Finding Refusal) → List ℕ
-verdict_text spans found = lines_of (λ sp v. verdict_line [] sp.name v) spans found
+verdict_text spans found = span_lines (λ sp v. verdict_line [] sp.name v) spans found
 
 -- the lines of right verdicts on the spans of a setup are such
 abbrev pub HasVerdicts : Setup → (List ℕ → Type 0) → Type 0
