@@ -1,7 +1,7 @@
 -- A tick of each instruction of the transmitter.
 --   IsTicked         what a tick leaves, takes, and writes to pin 0
-use Rattle.std.proofs.Common.{◌≡◌, ◌==◌, ℕ, suc, ◌+◌, ◌-◌, ◌*◌, ◌/◌, ◌%◌, ◌^◌, ◌<◌, nat_lt, min, Bool, true, false, cond, Option, Some, None, List, [], ◌∷◌, slice_index, refl, ap, ◌∙◌, arith}
-use Rattle.std.proofs.lemmas.Bool.Decides.{nat_tests}
+use Rattle.std.proofs.Common.{◌≡◌, ℕ, suc, ◌+◌, ◌-◌, ◌*◌, ◌/◌, ◌%◌, ◌^◌, ◌<◌, nat_lt, min, Bool, true, false, cond, Option, Some, None, List, [], ◌∷◌, slice_index, refl, ap, ◌∙◌, arith}
+use Rattle.std.proofs.lemmas.Bool.{lt-ltb, ne_eqb}
 use Rattle.std.specs.Int.{bit_at}
 use Rattle.pio_encode.specs.declared.act.Act.TheVariants.{Jmp, Out, Pull, Set}
 use Rattle.pio_encode.specs.declared.act.Condition.TheVariants as condition
@@ -57,12 +57,6 @@ reads v r rule address left word op memory pending pc is means =
     ∙ ap (λ (m : List ℕ). reading_of (slice_index m r.pc) rule) memory
     ∙ ap (λ (a : ℕ). reading_of (slice_index uart_memory a) rule) pc ∙ ap (λ w. reading_of w rule) is ∙ means
 
-positive : (d : ℕ) → nat_lt 0 (suc d) ≡ true
-positive d = grind (arith, nat_tests)
-
-less_one : (d : ℕ) → suc d - 1 ≡ d
-less_one d = omega arith
-
 -- a bit alone, written to pin 0
 one_pin : (b : ℕ) → b % 2 % 2 / 2 ^ 32 + b % 2 % 2 % 2 ^ 32 * 2 ^ 0 ≡ b % 2
 one_pin b = omega arith
@@ -78,9 +72,6 @@ side_high false old = refl
 
 down : (x : ℕ) → suc x < 2 ^ 32 → (suc x + (2 ^ 32 - 1)) % 2 ^ 32 ≡ x
 down x l = omega (arith, l)
-
-not_zero : (x : ℕ) → (suc x == 0) ≡ false
-not_zero x = grind (arith, nat_tests)
 
 -- a PULL that stalls: it stays, takes nothing, and leaves the level high; in its first tick it writes it
 pub record IsStalled (before : Registers) (t : Registers × Intent) : Type 0 where
@@ -100,8 +91,8 @@ module _ (int : ℕ) (s : MachineSetup) (h : IsUartMachine int s) (v : View) (me
   -- a tick of a delay
   pub delay_tick : (r : Registers) (address left : ℕ) → IsAtInstruction address (suc left) r → IsTicked (tick_of s v q r) address left r.x r.osr false (λ old. old)
   unfolding tick_of tick_delay last_of
-  delay_tick r address left a = rw (a.delay, positive left, h.autopull) (record {
-    at = record { pc = a.pc; delay = less_one left; pending = a.pending; begun = a.begun };
+  delay_tick r address left a = rw (a.delay, lt-ltb 0 (suc left) (omega arith), h.autopull) (record {
+    at = record { pc = a.pc; delay = omega arith; pending = a.pending; begun = a.begun };
     x_is = refl;
     osr_is = refl;
     takes = refl;
@@ -138,7 +129,7 @@ module _ (int : ℕ) (s : MachineSetup) (h : IsUartMachine int s) (v : View) (me
 
   loop_does : (r : Registers) (x : ℕ) → r.x ≡ suc x → effect_of (Jmp condition.XDecrement 2) s v q r ≡ record (quiet (record r { x = (suc x + (2 ^ 32 - 1)) % 2 ^ 32 })) { jump = Some 2 }
   unfolding effect_of jmp_effect
-  loop_does r x e = rw (e, not_zero x) refl
+  loop_does r x e = rw (e, ne_eqb (suc x) 0 (λ z. omega (arith, z))) refl
 
   pub loop_tick : (r : Registers) (x : ℕ) → IsAtInstruction 3 0 r → r.x ≡ suc x → suc x < 2 ^ 32 → IsTicked (tick_of s v q r) 2 6 x r.osr false (λ old. old)
   unfolding tick_by after_effect last_of

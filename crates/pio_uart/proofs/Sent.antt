@@ -1,5 +1,6 @@
 -- The transmitter sends what it is fed.
-use Rattle.std.proofs.Common.{◌≡◌, ◌==◌, ℕ, zero, suc, ◌+◌, ◌*◌, ◌%◌, ◌<◌, ◌≤◌, true, Some, None, IfSome, List, [], ◌∷◌, ◌++◌, map, slice_get, slice_index_or, refl, sym, ap, subst, ◌∙◌, arith, append_assoc}
+use Rattle.std.proofs.Common.{◌≡◌, ◌==◌, ℕ, zero, suc, ◌+◌, ◌*◌, ◌%◌, ◌≤◌, true, Some, None, IfSome, List, [], ◌∷◌, ◌++◌, map, slice_get, slice_index_or, refl, sym, ap, subst, ◌∙◌, arith, append_assoc}
+use Rattle.std.proofs.Math.Nat.{mul-zero}
 use Rattle.std.proofs.lemmas.List.{map-append}
 use Rattle.std.specs.Int.{bit_at}
 use Rattle.std.specs.List.{AllByRecursion}
@@ -49,15 +50,6 @@ at_clocks every words fs h = record {
   good = good_frames every fs h.good;
   bytes = record { rest = h.bytes.rest; parts = h.bytes.parts ∙ ap (λ bs. bs ++ h.bytes.rest) (sym (same_bytes every fs)) };
 }
-
-pub ticks_most : (int n : ℕ) → 1 ≤ int → n ≤ int * ticks_in int n
-ticks_most int n some = omega (arith, some)
-
-pub ticks_least : (int n : ℕ) → 1 ≤ int → int * ticks_in int n < n + int
-ticks_least int n some = omega (arith, some)
-
-nothing_times : (int : ℕ) → int * 0 ≡ 0
-nothing_times int = omega arith
 
 -- no other machine is there
 others_leave : (s : MachineSetup) (other : ℕ) → (other ≡ 0 → ⊥) → IfSome (slice_index_or (Some s ∷ None ∷ None ∷ None ∷ []) other None) (λ m. leaves 0 Level m ≡ true)
@@ -114,9 +106,9 @@ module _ (told : AreTold) (int : ℕ) (some : 1 ≤ int) (u : Setup) (t : IsTran
   frames_are n =
       ap (λ l. frames_from (8 * int) 0 0 (is_high l 0) (levels_of 0 (samples (first_run u) lines n))) t.level
       ∙ ap (frames_from (8 * int) 0 0 true) (told u lines 0 n)
-      ∙ ap (λ c. frames_from (8 * int) 0 c true (row (up_in u lines 0) c n)) (sym (nothing_times int))
+      ∙ ap (λ c. frames_from (8 * int) 0 c true (row (up_in u lines 0) c n)) (sym (mul-zero int))
       ∙ scaled int some (up_in u lines 0) (is_up (λ k. level_in u lines 0 (int * k))) (λ k e l. ap (λ v. v == 1) (goes.level k e l))
-      (ticks_in int n) n 0 0 0 true (ticks_most int n some) (ticks_least int n some) (from_start int)
+      (ticks_in int n) n 0 0 0 true (omega (arith, some)) (omega (arith, some)) (from_start int)
 
   pub sent : (n : ℕ) → IsSent (accepted (first_run u) lines 0 n) (frames_in u lines (8 * int) n)
   sent n =

@@ -1,6 +1,6 @@
 -- What the laws of a run tick by tick come to.
-use Rattle.std.proofs.Common.{◌≡◌, ℕ, ◌+◌, ◌*◌, ◌<◌, ◌≤◌, false, List, [], ◌∷◌, ◌++◌, refl, sym, ap, ◌∙◌, arith}
-use Rattle.std.proofs.Math.Nat.{mul-le-mul_right}
+use Rattle.std.proofs.Common.{◌≡◌, ℕ, ◌*◌, ◌≤◌, false, List, [], ◌∷◌, ◌++◌, refl, sym, ap, ◌∙◌, arith}
+use Rattle.std.proofs.Math.Nat.{mul-le-mul_left, mul-zero}
 use Rattle.std.specs.Int.{bit_at}
 use Rattle.clock_divider.specs.Timing.{period_of}
 use Rattle.clock_divider.specs.Ticks.{is_tick}
@@ -19,18 +19,6 @@ use Rattle.program_runs.proofs.Clocks.{Laws, begins, idle_regs, idle_level, idle
 use Rattle.program_runs.proofs.Ticks.{taken_by_ticks, left_by_ticks, tick_run, level_of_tick, none_between}
 use Rattle.program_runs.proofs.Fed.{left_in, goes, front_is, at_first}
 
-ticks_most : (int n : ℕ) → 1 ≤ int → n ≤ int * ticks_in int n
-ticks_most int n some = omega (arith, some)
-
-ticks_least : (int n : ℕ) → 1 ≤ int → int * ticks_in int n < n + int
-ticks_least int n some = omega (arith, some)
-
-nothing_times : (int : ℕ) → int * 0 ≡ 0
-nothing_times int = omega arith
-
-mul_up : (int a b : ℕ) → a ≤ b → int * a ≤ int * b
-mul_up int a b h = let m = mul-le-mul_right {m = a} {n = b} int h in grind arith
-
 module _ (laws : Laws) (u : Setup) (lines : List Line) (id : ℕ) (s : MachineSetup) (pin : ℕ) (own : IsOwn u id s pin) (steady : IsSteady lines) where
   pub left : (clock : ℕ) → IsLeft (host_in u lines clock) s.id
   left clock = left_alone (first_run u) lines steady clock s.id
@@ -44,16 +32,16 @@ module _ (laws : Laws) (u : Setup) (lines : List Line) (id : ℕ) (s : MachineSe
 
   pub by_ticks : (int : ℕ) → 1 ≤ int → s.int ≡ int → s.frac ≡ 0 → GoesByTicks u lines id s pin int
   by_ticks int some divider frac = record {
-    first_regs = ap (regs_in u lines s) (nothing_times int);
-    first_tx = ap (tx_in u lines s) (nothing_times int);
-    first_level = ap (level_in u lines pin) (nothing_times int) ∙ ap (λ (b : BlockState). bit_at b.levels pin) (begins u lines);
+    first_regs = ap (regs_in u lines s) (mul-zero int);
+    first_tx = ap (tx_in u lines s) (mul-zero int);
+    first_level = ap (level_in u lines pin) (mul-zero int) ∙ ap (λ (b : BlockState). bit_at b.levels pin) (begins u lines);
     step = λ t. (tick_run laws u lines id s pin own left int some divider frac t).0;
     front = λ t. (tick_run laws u lines id s pin own left int some divider frac t).1;
     level = level_of_tick laws u lines id s pin own left int some divider frac;
     words = λ n. accepted_words laws u lines id s pin own left n
         ∙ ap (λ ws. ws ++ tx_in u lines s n)
-        (ap (λ c. takes (taken_in u lines s) c n) (sym (nothing_times int))
-        ∙ taken_by_ticks int some (taken_in u lines s) (none_between laws u lines id s pin own left int some divider frac) (ticks_in int n) n 0 (ticks_most int n some) (ticks_least int n some));
+        (ap (λ c. takes (taken_in u lines s) c n) (sym (mul-zero int))
+        ∙ taken_by_ticks int some (taken_in u lines s) (none_between laws u lines id s pin own left int some divider frac) (ticks_in int n) n 0 (omega (arith, some)) (omega (arith, some)));
   }
 
 pub steady_feed : (words : List ℕ) → IsSteady (fed words)
@@ -69,7 +57,7 @@ pub supplied : Laws → (u : Setup) (words : List ℕ) (s : MachineSetup) (pin i
 supplied laws u words s pin int own some divider frac no_tx no_rx =
     let quiet = left laws u (fed words) 0 s pin own (steady_feed words) in record {
       left = λ t. left_in u words s (int * t);
-      first = ap (left_in u words s) (nothing_times int) ∙ at_first laws u words s pin own quiet (no_tx, no_rx);
+      first = ap (left_in u words s) (mul-zero int) ∙ at_first laws u words s pin own quiet (no_tx, no_rx);
       goes = left_by_ticks int some (taken_in u (fed words) s) (none_between laws u (fed words) 0 s pin own quiet int some divider frac) (left_in u words s) (goes laws u words s pin own quiet (no_tx, no_rx));
-      front = λ t l. front_is laws u words s pin own quiet (no_tx, no_rx) (int * t) (let m = mul_up int 1 t l in omega (arith, m, some));
+      front = λ t l. front_is laws u words s pin own quiet (no_tx, no_rx) (int * t) (let m : int * 1 ≤ int * t = mul-le-mul_left int l in omega (arith, m, some));
     }

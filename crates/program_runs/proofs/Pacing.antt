@@ -1,6 +1,7 @@
 -- A divider without fraction: its ticks are the multiples of its whole part.
-use Rattle.std.proofs.Common.{◌≡◌, ◌==◌, ℕ, ◌+◌, ◌*◌, ◌/◌, ◌<◌, ◌≤◌, ◌⊎◌, inl, inr, ◌↔◌, Bool, true, false, IsTrue, refl, arith}
-use Rattle.std.proofs.Math.Nat.{mul-le-mul_right}
+use Rattle.std.proofs.Common.{◌≡◌, ◌==◌, ℕ, ◌+◌, ◌*◌, ◌/◌, ◌<◌, ◌≤◌, inl, inr, ◌↔◌, Bool, true, false, IsTrue, refl, arith}
+use Rattle.std.proofs.Math.Nat.{mul-le-mul_left, mul-add}
+use Rattle.std.proofs.lemmas.Bool.{cases_lt}
 use Rattle.std.proofs.lemmas.Bool.Decides.{nat_tests}
 use Rattle.clock_divider.specs.Timing.{period_of}
 use Rattle.clock_divider.specs.Ticks.{IsTickClock, is_tick}
@@ -8,15 +9,6 @@ use Rattle.clock_divider.specs.Ticks.{IsTickClock, is_tick}
 -- what the law of clock_divider says
 abbrev pub AreTested : Type 0
 AreTested = (restarted period clock : ℕ) → 0 < period → IsTrue (is_tick restarted period clock) ↔ (IsTickClock restarted period clock)
-
-cases_le : (a b : ℕ) → (a ≤ b) ⊎ (b < a)
-cases_le a b = grind arith
-
-mul_up : (int a b : ℕ) → a ≤ b → int * a ≤ int * b
-mul_up int a b h = let m = mul-le-mul_right {m = a} {n = b} int h in grind arith
-
-mul_suc : (int a : ℕ) → int * (a + 1) ≡ int * a + int
-mul_suc int a = grind arith
 
 periods : (int k : ℕ) → k * (256 * int + 0) / 256 ≡ int * k
 periods int k = let e : k * (256 * int + 0) ≡ int * k * 256 = grind arith in omega arith
@@ -32,9 +24,9 @@ on_tick tested int t some = (tested 0 (256 * int + 0) (int * t) (omega (arith, s
 pub off_tick : AreTested → (int t e : ℕ) → 0 < e → e < int → is_tick 0 (256 * int + 0) (int * t + e) ≡ false
 off_tick tested int t e more less = by (is_tick 0 (256 * int + 0) (int * t + e)) refl where
   never : (k : ℕ) → int * k ≡ int * t + e → ⊥
-  never k same = elim (cases_le k t) [
-    | inl before ↦ let m = mul_up int k t before in omega (arith, m, same, more)
-    | inr after ↦ let m = mul_up int (t + 1) k (omega (arith, after)) in let n = mul_suc int t in omega (arith, m, n, same, less)
+  never k same = elim (cases_lt t k) [
+    | inl after ↦ let m : int * (t + 1) ≤ int * k = mul-le-mul_left int (omega (arith, after)) in let n = mul-add int t 1 in omega (arith, m, n, same, less)
+    | inr before ↦ let m = mul-le-mul_left int before in omega (arith, m, same, more)
   ]
 
   by : (b : Bool) → is_tick 0 (256 * int + 0) (int * t + e) ≡ b → is_tick 0 (256 * int + 0) (int * t + e) ≡ false

@@ -1,6 +1,8 @@
 -- From clocks to ticks: a machine whose divider has no fraction has a tick every so many clocks, and between two ticks nothing of it
 -- changes.
-use Rattle.std.proofs.Common.{◌≡◌, ℕ, zero, suc, ◌+◌, ◌-◌, ◌*◌, ◌<◌, ◌≤◌, ◌⊎◌, inl, inr, true, false, Option, None, option_to_list, slice_get, List, ◌++◌, refl, sym, ap, ◌∙◌, arith}
+use Rattle.std.proofs.Common.{◌≡◌, ℕ, zero, suc, ◌+◌, ◌-◌, ◌*◌, ◌<◌, ◌≤◌, inl, inr, true, false, Option, None, option_to_list, slice_get, List, ◌++◌, refl, sym, ap, ◌∙◌, arith}
+use Rattle.std.proofs.Math.Nat.{mul-add, mul-suc}
+use Rattle.std.proofs.lemmas.Bool.{cases_lt}
 use Rattle.clock_divider.specs.Timing.{period_of}
 use Rattle.clock_divider.specs.Ticks.{is_tick}
 use Rattle.pin_matrix.specs.declared.machine.MachineSetup.{MachineSetup}
@@ -13,32 +15,26 @@ use Rattle.program_runs.proofs.Pacing.{period, on_tick, off_tick}
 use Rattle.program_runs.proofs.Taking.{takes-split, takes-none}
 use Rattle.program_runs.proofs.Clocks.{Laws, idle_regs, idle_level, idle_taken, tick_fed}
 
-cases_le : (a b : ℕ) → (a ≤ b) ⊎ (b < a)
-cases_le a b = grind arith
-
-mul_suc : (int a : ℕ) → int * (a + 1) ≡ int * a + int
-mul_suc int a = grind arith
-
 -- of a word that may be taken in every so many clocks alone: the words that are taken in clocks are those that are taken in ticks
 module _ (int : ℕ) (some : 1 ≤ int) (taken : ℕ → Option ℕ) (pauses : (t e : ℕ) → 0 < e → e < int → taken (int * t + e) ≡ None) where
   after_tick : (t n : ℕ) → takes taken (int * t + 1) n ≡ takes taken (int * (t + 1)) (suc n - int)
-  after_tick t n = elim (cases_le (suc n) int) [
-    | inl short ↦
-        takes-none taken (int * t + 1) n (λ j l. ap taken (let e : int * t + 1 + j ≡ int * t + (j + 1) = omega arith in e) ∙ pauses t (j + 1) (omega arith) (omega (arith, l, short)))
-        ∙ ap (takes taken (int * (t + 1))) (let e : 0 ≡ suc n - int = omega (arith, short) in e)
-    | inr long ↦
+  after_tick t n = elim (cases_lt int (suc n)) [
+    | inl long ↦
         ap (takes taken (int * t + 1)) (let e : n ≡ (int - 1) + (suc n - int) = omega (arith, long, some) in e)
         ∙ takes-split taken (int * t + 1) (int - 1) (suc n - int)
         ∙ ap (λ ws. ws ++ takes taken (int * t + 1 + (int - 1)) (suc n - int)) (takes-none taken (int * t + 1) (int - 1) (λ j l. ap taken (let e : int * t + 1 + j ≡ int * t + (j + 1) = omega arith in e) ∙ pauses t (j + 1) (omega arith) (omega (arith, l))))
-        ∙ ap (λ k. takes taken k (suc n - int)) (let m = mul_suc int t in let e : int * t + 1 + (int - 1) ≡ int * (t + 1) = omega (arith, m, some) in e)
+        ∙ ap (λ k. takes taken k (suc n - int)) (let m = mul-add int t 1 in let e : int * t + 1 + (int - 1) ≡ int * (t + 1) = omega (arith, m, some) in e)
+    | inr short ↦
+        takes-none taken (int * t + 1) n (λ j l. ap taken (let e : int * t + 1 + j ≡ int * t + (j + 1) = omega arith in e) ∙ pauses t (j + 1) (omega arith) (omega (arith, l, short)))
+        ∙ ap (takes taken (int * (t + 1))) (let e : 0 ≡ suc n - int = omega (arith, short) in e)
   ]
 
   pub taken_by_ticks : (ticks n t : ℕ) → n ≤ int * ticks → int * ticks < n + int → takes taken (int * t) n ≡ takes (λ k. taken (int * k)) t ticks
   taken_by_ticks zero zero t most least = refl
   taken_by_ticks zero (suc n) t most least = absurd (let e : int * 0 ≡ 0 = omega arith in omega (arith, most))
-  taken_by_ticks (suc ticks) zero t most least = absurd (let e : int * suc ticks ≡ int * ticks + int = ap (λ k. int * k) (let q : suc ticks ≡ ticks + 1 = omega arith in q) ∙ mul_suc int ticks in omega (arith, least, e))
+  taken_by_ticks (suc ticks) zero t most least = absurd (let e = mul-suc int ticks in omega (arith, least, e))
   taken_by_ticks (suc ticks) (suc n) t most least =
-      let more : int * suc ticks ≡ int * ticks + int = ap (λ k. int * k) (let q : suc ticks ≡ ticks + 1 = omega arith in q) ∙ mul_suc int ticks in
+      let more = mul-suc int ticks in
       ap (λ ws. option_to_list (taken (int * t)) ++ ws) (after_tick t n ∙ taken_by_ticks ticks (suc n - int) (t + 1) (omega (arith, most, more)) (omega (arith, least, more)))
 
   -- of words that are left: what is left after the clocks of a tick
@@ -51,7 +47,7 @@ module _ (int : ℕ) (some : 1 ≤ int) (taken : ℕ → Option ℕ) (pauses : (
 
   pub left_by_ticks : (left : ℕ → List ℕ) → ((c : ℕ) → option_to_list (taken c) ++ left (suc c) ≡ left c) → (t : ℕ) → option_to_list (taken (int * t)) ++ left (int * (t + 1)) ≡ left (int * t)
   left_by_ticks left goes t =
-      ap (λ ws. option_to_list (taken (int * t)) ++ ws) (ap left (let m = mul_suc int t in let q : int * (t + 1) ≡ int * t + suc (int - 1) = omega (arith, m, some) in q) ∙ left_held left goes t (int - 1) (omega (arith, some)))
+      ap (λ ws. option_to_list (taken (int * t)) ++ ws) (ap left (let m = mul-add int t 1 in let q : int * (t + 1) ≡ int * t + suc (int - 1) = omega (arith, m, some) in q) ∙ left_held left goes t (int - 1) (omega (arith, some)))
       ∙ goes (int * t)
 
 module _ (laws : Laws) (u : Setup) (lines : List Line) (id : ℕ) (s : MachineSetup) (pin : ℕ) (own : IsOwn u id s pin) (left : (clock : ℕ) → IsLeft (host_in u lines clock) s.id)
@@ -76,7 +72,7 @@ module _ (laws : Laws) (u : Setup) (lines : List Line) (id : ℕ) (s : MachineSe
       ∙ idle_level laws u lines id s pin own left (int * t + suc e) (pauses t (suc e) (omega arith) l) ∙ held_level t e (omega (arith, l))
 
   next_tick : (t : ℕ) → int * (t + 1) ≡ int * t + suc (int - 1)
-  next_tick t = let m = mul_suc int t in omega (arith, m, some)
+  next_tick t = let m = mul-add int t 1 in omega (arith, m, some)
 
   -- the machine tick by tick
   pub tick_run : (t : ℕ)
