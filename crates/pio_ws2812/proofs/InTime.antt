@@ -3,7 +3,7 @@
 use Rattle.std.proofs.Common.{◌≡◌, ◌==◌, ℕ, zero, suc, ◌+◌, ◌-◌, ◌*◌, ◌^◌, ◌<◌, ◌≤◌, inl, inr, min, Bool, true, false, cond, Option, Some, None, option_to_list, List, [], ◌∷◌, ◌++◌, slice_get, refl, sym, ap, subst, ◌∙◌, arith, append_assoc}
 use Rattle.std.proofs.lemmas.Grind.{flat_map-append}
 use Rattle.std.proofs.Math.Nat.{mul-le-mul_right}
-use Rattle.std.proofs.lemmas.Bool.{cases_lt}
+use Rattle.std.proofs.lemmas.Bool.{cases_lt, lt-ltb, le-ltb}
 use Rattle.pin_matrix.specs.declared.machine.MachineSetup.{MachineSetup}
 use Rattle.sm_registers.specs.declared.registers.Registers.{Registers}
 use Rattle.sm_registers.specs.Tick.{tick_of}
@@ -15,7 +15,7 @@ use Rattle.pio_ws2812.specs.Feeding.{low_fed, pulses_fed}
 use Rattle.pio_ws2812.specs.Transmitter.{ws2812_memory, IsLightMachine}
 use Rattle.pio_ws2812.proofs.Clocked.{stay}
 use Rattle.pio_ws2812.proofs.Instructions.{AreMapped}
-use Rattle.pio_ws2812.proofs.Numbers.{less_true, less_false, mul_add}
+use Rattle.pio_ws2812.proofs.Numbers.{mul_add}
 use Rattle.pio_ws2812.proofs.PulseRows.{row_at, no_pulses, stays, lows-for, low_in, before_pulse, pulse_of, lead_of}
 use Rattle.pio_ws2812.proofs.Sent.{bit_row}
 use Rattle.pio_ws2812.proofs.Transmitting.{IsReady, sends, waits}
@@ -121,10 +121,10 @@ module _ (int : ℕ) (some : 1 ≤ int) (pin : ℕ) (s : MachineSetup) (h : IsLi
               ∙ low_is int clocks (int * t) (int * (5 + 10 * j)) n bit bits refl start)
               ∙ ap (λ ps. record { start = int * (5 + 10 * j); high = min (high_of int bit) (clocks - int * (5 + 10 * j)); low = low_fed int (clocks - (int * (5 + 10 * j) + high_of int bit)) bit bits } ∷ ps)
               (ap (λ c. pulses_from c false (row at c (n - 10 * int))) clock ∙ ap (λ k. pulses_from (int * (t + 10)) false (row at (int * (t + 10)) k)) rest ∙ f.pulses_are)
-              ∙ sym (ap (λ v. cond v (record { start = int * (5 + 10 * j); high = min (high_of int bit) (clocks - int * (5 + 10 * j)); low = low_fed int (clocks - (int * (5 + 10 * j) + high_of int bit)) bit bits } ∷ pulses_fed int clocks (j + 1) bits) []) (less_true (int * (5 + 10 * j)) clocks (omega (arith, start, long))))
+              ∙ sym (ap (λ v. cond v (record { start = int * (5 + 10 * j); high = min (high_of int bit) (clocks - int * (5 + 10 * j)); low = low_fed int (clocks - (int * (5 + 10 * j) + high_of int bit)) bit bits } ∷ pulses_fed int clocks (j + 1) bits) []) (lt-ltb (int * (5 + 10 * j)) clocks (omega (arith, start, long))))
           | inr short ↦
               before_pulse int (int * t) n at bit r short
-              ∙ sym (ap (λ v. cond v (record { start = int * (5 + 10 * j); high = min (high_of int bit) (clocks - int * (5 + 10 * j)); low = low_fed int (clocks - (int * (5 + 10 * j) + high_of int bit)) bit bits } ∷ pulses_fed int clocks (j + 1) bits) []) (less_false (int * (5 + 10 * j)) clocks (omega (arith, start, short))))
+              ∙ sym (ap (λ v. cond v (record { start = int * (5 + 10 * j); high = min (high_of int bit) (clocks - int * (5 + 10 * j)); low = low_fed int (clocks - (int * (5 + 10 * j) + high_of int bit)) bit bits } ∷ pulses_fed int clocks (j + 1) bits) []) (le-ltb (int * (5 + 10 * j)) clocks (omega (arith, start, short))))
         ];
         lead_is = lead_of int (int * t) n at bit some r;
       }

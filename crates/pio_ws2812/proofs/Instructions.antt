@@ -3,7 +3,7 @@
 --   IsTicked         what a tick leaves, takes, and writes to the pin
 --   IsStalled        the same of an OUT that waits for a word
 use Rattle.std.proofs.Common.{◌≡◌, ◌==◌, ℕ, zero, suc, ◌+◌, ◌-◌, ◌*◌, ◌/◌, ◌%◌, ◌^◌, ◌<◌, ◌≤◌, nat_lt, nat_le, min, Bool, true, false, ◌||◌, cond, Option, Some, None, option_to_list, List, [], ◌∷◌, ◌++◌, slice_index, refl, sym, ap, subst, ◌∙◌, arith, append-nil}
-use Rattle.std.proofs.lemmas.Bool.Decides.{nat_tests}
+use Rattle.std.proofs.lemmas.Bool.{lt-ltb, le-leb, lt-leb, leb-true, leb-false}
 use Rattle.std.proofs.lemmas.Nat.Bits.{bit_at-zero}
 use Rattle.std.specs.Int.{bit_at}
 use Rattle.pio_encode.specs.declared.act.Act.TheVariants.{Jmp, Out, Mov}
@@ -30,7 +30,6 @@ use Rattle.program_runs.specs.Steps.{IsAtInstruction}
 use Rattle.pio_ws2812.specs.Sending.{bits_down, word_bits, bits_of}
 use Rattle.pio_ws2812.specs.Transmitter.{ws2812_memory, IsLightRule, IsLightMachine}
 use Rattle.pio_ws2812.proofs.Bits.{one_more, none, word_bits-is, bits_down-shift, top_bit}
-use Rattle.pio_ws2812.proofs.Numbers.{le_true, le_false, le_means, less_means}
 
 -- what the law of pin_matrix says of a mapped pin
 pub record AreMapped : Type 0 where
@@ -93,12 +92,6 @@ reads v r rule address word op memory pending pc is means =
     ∙ ap (λ (m : List ℕ). reading_of (slice_index m r.pc) rule) memory
     ∙ ap (λ (a : ℕ). reading_of (slice_index ws2812_memory a) rule) pc ∙ ap (λ w. reading_of w rule) is ∙ means
 
-positive : (d : ℕ) → nat_lt 0 (suc d) ≡ true
-positive d = grind (arith, nat_tests)
-
-less_one : (d : ℕ) → suc d - 1 ≡ d
-less_one d = omega arith
-
 -- no bit is left where 24 are out, and else the top one of the OSR is the next
 all_out : (r : Registers) → Holds r [] → 24 ≤ r.out_count
 all_out r h = by (24 - r.out_count) refl h.bits_are where
@@ -148,7 +141,7 @@ module _ (int pin : ℕ) (s : MachineSetup) (h : IsLightMachine int pin s) (is_p
       count = r.out_count;
       is = refl;
       holds = record { word = k.word; bits_are = append-nil bits ∙ k.bits_are };
-      dry = λ g. absurd (some_bits r.osr r.out_count bits (less_means 24 r.out_count e) k.bits_are (sym (append-nil bits) ∙ g));
+      dry = λ g. absurd (some_bits r.osr r.out_count bits (leb-false 24 r.out_count e) k.bits_are (sym (append-nil bits) ∙ g));
     })
     by true e None f = rw (h.autopull, h.pull_threshold, e, f) (record {
       osr = r.osr;
@@ -166,7 +159,7 @@ module _ (int pin : ℕ) (s : MachineSetup) (h : IsLightMachine int pin s) (is_p
     }) where
       new : bits ++ (word_bits w ++ []) ≡ bits_down w 0 24
       new =
-          ap (λ bs. bs ++ (word_bits w ++ [])) (k.bits_are ∙ ap (bits_down r.osr 0) (let m = le_means 24 r.out_count e in let n : 24 - r.out_count ≡ 0 = omega (arith, m) in n) ∙ none r.osr 0)
+          ap (λ bs. bs ++ (word_bits w ++ [])) (k.bits_are ∙ ap (bits_down r.osr 0) (let m = leb-true 24 r.out_count e in let n : 24 - r.out_count ≡ 0 = omega (arith, m) in n) ∙ none r.osr 0)
           ∙ append-nil (word_bits w) ∙ word_bits-is w
 
   -- a tick that leaves these registers before the refill
@@ -210,14 +203,14 @@ module _ (int pin : ℕ) (s : MachineSetup) (h : IsLightMachine int pin s) (is_p
   -- a tick of a delay
   delays : (r : Registers) (left : ℕ) → r.delay ≡ suc left → tick_of s v q r ≡ tick_delay s q r
   unfolding tick_of
-  delays r left e = ap (λ b. cond b (tick_delay s q r) (tick_word (reading_of (current_word v r) s.side_rule) s v q r)) (ap (nat_lt 0) e ∙ positive left)
+  delays r left e = ap (λ b. cond b (tick_delay s q r) (tick_word (reading_of (current_word v r) s.side_rule) s v q r)) (ap (nat_lt 0) e ∙ lt-ltb 0 (suc left) (omega arith))
 
   pub delay_tick : (r : Registers) (address left : ℕ) (bits : List Bool) → IsAtInstruction address (suc left) r → Holds r bits → IsTicked pin q.front (tick_of s v q r) address left r.x bits (λ old. old)
   unfolding tick_delay last_of
   delay_tick r address left bits a k =
       subst (λ t. IsTicked pin q.front t address left r.x bits (λ old. old)) (sym (delays r left a.delay))
       (ticked (tick_delay s q r) (record r { delay = r.delay - 1 }) address left r.x bits (λ old. old) refl refl
-      (record { pc = a.pc; delay = ap (λ d. d - 1) a.delay ∙ less_one left; pending = a.pending; begun = a.begun }) refl (record { word = k.word; bits_are = k.bits_are })
+      (record { pc = a.pc; delay = ap (λ d. d - 1) a.delay ∙ (let e : suc left - 1 ≡ left = omega arith in e); pending = a.pending; begun = a.begun }) refl (record { word = k.word; bits_are = k.bits_are })
       (λ old. rw (bit_at-zero pin) refl))
 
   -- a tick of an instruction writes the pin by side-set, and then refills
@@ -250,7 +243,7 @@ module _ (int pin : ℕ) (s : MachineSetup) (h : IsLightMachine int pin s) (is_p
       let op : Op = record { side = Some 0; delay = 2; act = Out out_destination.X 1 } in
       let e : Effect = quiet (record r { osr = r.osr * 2 % 2 ^ 32; out_count = min 32 (r.out_count + 1); x = r.osr / 2 ^ 31 }) in
       subst (λ t. IsTicked pin q.front t 1 2 (cond bit 1 0) bits (λ old. cond r.begun old 0))
-      (sym (tick_is r op e a.delay (reads v r s.side_rule 0 0x6221 op memory a.pending a.pc refl (out_word s.side_rule h.rule)) (out_does r (le_false 24 r.out_count few))))
+      (sym (tick_is r op e a.delay (reads v r s.side_rule 0 0x6221 op memory a.pending a.pc refl (out_word s.side_rule h.rule)) (out_does r (lt-leb 24 r.out_count few))))
       (by_tick op r e 1 2 (cond bit 1 0) 0 bits refl (omega arith) refl refl
       (rw (a.pc, a.pending, h.wrap_top) (record { pc = refl; delay = refl; pending = refl; begun = refl }))
       (top_bit r.osr k.word ∙ ap (λ b. cond b 1 0) (sym n.top))
@@ -269,7 +262,7 @@ module _ (int pin : ℕ) (s : MachineSetup) (h : IsLightMachine int pin s) (is_p
       let after : Registers = record r { begun = true } in
       let f = refill after [] (record { word = k.word; bits_are = k.bits_are }) in
       subst (IsStalled pin q.front r)
-      (sym (tick_is r op e a.delay (reads v r s.side_rule 0 0x6221 op memory a.pending a.pc refl (out_word s.side_rule h.rule)) (stall_does r (le_true 24 r.out_count (all_out r k)))))
+      (sym (tick_is r op e a.delay (reads v r s.side_rule 0 0x6221 op memory a.pending a.pc refl (out_word s.side_rule h.rule)) (stall_does r (le-leb 24 r.out_count (all_out r k)))))
       (record {
         at = subst IsShifting (sym f.is) (record { pc = a.pc; delay = a.delay; pending = a.pending });
         holds = subst (λ z. Holds z (more (refills s q after) q.front)) (sym f.is) f.holds;

@@ -1,5 +1,6 @@
 -- The transmitter's run, tick by tick, and what it sends in clocks.
 use Rattle.std.proofs.Common.{◌≡◌, ◌==◌, ℕ, zero, suc, ◌+◌, ◌*◌, ◌^◌, ◌<◌, ◌≤◌, Bool, true, false, Some, None, IfSome, List, [], ◌∷◌, ◌++◌, slice_get, slice_index_or, refl, sym, ap, subst, ◌∙◌, arith, append_assoc}
+use Rattle.std.proofs.Math.Nat.{mul-zero}
 use Rattle.std.proofs.lemmas.Grind.{flat_map-append}
 use Rattle.std.proofs.lemmas.Nat.Bits.{bit_at-zero}
 use Rattle.std.specs.List.{AllByRecursion}
@@ -63,12 +64,6 @@ more_bits int bits more ps h = record {
   read = λ bound l m. let f = h.read bound l m in record { rest = f.rest ++ more; parts = ap (λ bs. bs ++ more) f.parts ∙ append_assoc (bits_read bound ps) f.rest more };
 }
 
-pub ticks_most : (int n : ℕ) → 1 ≤ int → n ≤ int * ticks_in int n
-ticks_most int n some = omega (arith, some)
-
-nothing_times : (int : ℕ) → int * 0 ≡ 0
-nothing_times int = omega arith
-
 module _ (told : AreTold) (mapped : AreMapped) (int : ℕ) (some : 1 ≤ int) (pin : ℕ) (u : Setup) (t : IsTransmitter int pin u) (lines : List Line) (goes : GoesByTicks u lines 0 t.machine pin int)
     (words : (n : ℕ) → AllByRecursion (λ w. w < 2 ^ 32) (accepted (first_run u) lines 0 n)) where
   -- tick by tick, with its own words
@@ -109,13 +104,13 @@ module _ (told : AreTold) (mapped : AreMapped) (int : ℕ) (some : 1 ≤ int) (p
       ap (λ l. pulses_from 0 (is_high l pin) (levels_in u lines pin n)) t.level
       ∙ ap (λ b. pulses_from 0 (b == 1) (levels_in u lines pin n)) (bit_at-zero pin)
       ∙ ap (pulses_from 0 false) (told u lines pin n)
-      ∙ ap (λ c. pulses_from c false (row (up_in u lines pin) c n)) (sym (nothing_times int))
+      ∙ ap (λ c. pulses_from c false (row (up_in u lines pin) c n)) (sym (mul-zero int))
 
   pub sent : (n : ℕ) → IsSent int 0 (bits_of (accepted (first_run u) lines 0 n)) (pulses_in u lines pin n)
   sent n =
       let taken = takes (λ k. taken_in u lines t.machine (int * k)) 0 (ticks_in int n) in
       let so = all_sent int some pin t.machine t.is_set_up t.is_pin mapped (λ k. regs_in u lines t.machine (int * k)) (λ k. level_in u lines pin (int * k)) (λ k. taken_in u lines t.machine (int * k)) step step_words
-      (up_in u lines pin) held (ticks_in int n) (ticks_in int n) n 0 [] (omega arith) (ticks_most int n some) ready in
+      (up_in u lines pin) held (ticks_in int n) (ticks_in int n) n 0 [] (omega arith) (omega (arith, some)) ready in
       subst (λ ws. IsSent int 0 (bits_of ws) (pulses_in u lines pin n)) (sym (goes.words n))
       (subst (λ bs. IsSent int 0 bs (pulses_in u lines pin n)) (sym (flat_map-append word_bits taken (tx_in u lines t.machine n)))
       (subst (IsSent int 0 (bits_of taken ++ bits_of (tx_in u lines t.machine n))) (sym (pulses_are n))

@@ -1,8 +1,9 @@
 -- The pulses of the transmitter: those of the bits that it has and takes.
 --   IsSoFar          what it sends in some clocks, from a tick on at which it begins an OUT
 use Rattle.std.proofs.Common.{◌≡◌, ◌==◌, ℕ, zero, suc, ◌+◌, ◌-◌, ◌*◌, ◌^◌, ◌<◌, ◌≤◌, ◌⊎◌, inl, inr, nat_lt, min, Bool, true, false, cond, Option, Some, option_to_list, List, [], ◌∷◌, ◌++◌, length, refl, sym, ap, subst, ◌∙◌, arith}
+use Rattle.std.proofs.Math.Nat.{mul-add, mul-suc, mul-le-mul_left}
 use Rattle.std.proofs.lemmas.Grind.{flat_map-append}
-use Rattle.std.proofs.lemmas.Bool.{cases_lt}
+use Rattle.std.proofs.lemmas.Bool.{cases_lt, lt-ltb, le-ltb}
 use Rattle.pin_matrix.specs.declared.machine.MachineSetup.{MachineSetup}
 use Rattle.sm_registers.specs.declared.registers.Registers.{Registers}
 use Rattle.program_runs.specs.Levels.{row}
@@ -12,7 +13,7 @@ use Rattle.pio_ws2812.specs.Sending.{word_bits, bits_of, high_of, low_of, low_af
 use Rattle.pio_ws2812.specs.Transmitter.{ws2812_memory, IsLightMachine}
 use Rattle.pio_ws2812.proofs.Clocked.{stay}
 use Rattle.pio_ws2812.proofs.Instructions.{AreMapped}
-use Rattle.pio_ws2812.proofs.Numbers.{less_true, less_false, is_some, mul_suc, mul_add, mul_up}
+use Rattle.pio_ws2812.proofs.Numbers.{is_some, mul_add}
 use Rattle.pio_ws2812.proofs.Places.{place_of, most, new_place, last_place, other_place, place_next}
 use Rattle.pio_ws2812.proofs.PulseRows.{IsBitRow, no_pulses, stays, lows-for, lows-most, low_in, before_pulse, pulse_of, lead_of}
 use Rattle.pio_ws2812.proofs.Transmitting.{IsReady, IsBit, bits-join, sends, waits, low_next}
@@ -46,8 +47,8 @@ one_or_zero int high true e = inr e
 one_or_zero int high false e = inl e
 
 pub told_by : (int bound : ℕ) (bit : Bool) → 2 * int ≤ bound → bound < 7 * int → nat_lt bound (high_of int bit) ≡ bit
-told_by int bound true l m = less_true bound (7 * int) m
-told_by int bound false l m = less_false bound (2 * int) l
+told_by int bound true l m = lt-ltb bound (7 * int) m
+told_by int bound false l m = le-ltb bound (2 * int) l
 
 read_one : (int n lead bound : ℕ) (bit : Bool) (read rest : List Bool) → lead ≤ n - 10 * int → 2 * int ≤ bound → bound < 7 * int → IsFirstPart read rest
     → IsFirstPart (cond (low_in int n bit + lead == 0) [] (nat_lt bound (min (high_of int bit) (n - 3 * int)) ∷ read)) (bit ∷ rest)
@@ -65,11 +66,11 @@ not_longer int n lead true l = by (nat_lt (2 * int) (min (7 * int) (n - 3 * int)
   by true = omega (arith, l)
   by false = omega (arith, l)
 not_longer int n lead false l =
-    subst (λ b. min (5 * int) (n - 5 * int) + lead ≤ low_of int b) (sym (less_false (2 * int) (min (2 * int) (n - 3 * int)) (omega arith))) (omega (arith, l))
+    subst (λ b. min (5 * int) (n - 5 * int) + lead ≤ low_of int b) (sym (le-ltb (2 * int) (min (2 * int) (n - 3 * int)) (omega arith))) (omega (arith, l))
 
 whole_low : (int n lead : ℕ) (bit : Bool) → 1 ≤ int → 3 * int ≤ lead → lead ≤ n - 10 * int → nat_lt (2 * int) (min (high_of int bit) (n - 3 * int)) ≡ bit
-whole_low int n lead true some l m = less_true (2 * int) (min (7 * int) (n - 3 * int)) (omega (arith, some, l, m))
-whole_low int n lead false some l m = less_false (2 * int) (min (2 * int) (n - 3 * int)) (omega arith)
+whole_low int n lead true some l m = lt-ltb (2 * int) (min (7 * int) (n - 3 * int)) (omega (arith, some, l, m))
+whole_low int n lead false some l m = le-ltb (2 * int) (min (2 * int) (n - 3 * int)) (omega arith)
 
 at_least : (int n lead : ℕ) (bit : Bool) → 1 ≤ int → 3 * int ≤ lead → lead ≤ n - 10 * int → low_of int bit ≤ low_in int n bit + lead
 at_least int n lead true some l m = omega (arith, l)
@@ -145,7 +146,7 @@ module _ (int : ℕ) (some : 1 ≤ int) (pin : ℕ) (s : MachineSetup) (h : IsLi
   waiting t n k g so =
       let w = waits int pin s h is_pin mapped regs levels taken run words t g in
       let low : (j : ℕ) → j < int → at (int * t + j) ≡ false = λ j l. held t j l ∙ ap (λ n. n == 1) w.low in
-      let clock : int * t + int ≡ int * (t + 1) = let m = mul_suc int t in omega (arith, m) in
+      let clock : int * t + int ≡ int * (t + 1) = let m = mul-add int t 1 in omega (arith, m) in
       let ps : pulses_from (int * t) false (row at (int * t) n) ≡ pulses_from (int * (t + 1)) false (row at (int * (t + 1)) (n - int)) = stays int (int * t) n at false low ∙ ap (λ c. pulses_from c false (row at c (n - int))) clock in
       let lead : lows (row at (int * t) n) ≡ min int n + lows (row at (int * (t + 1)) (n - int)) = lows-for int (int * t) n at low ∙ ap (λ c. min int n + lows (row at c (n - int))) clock in
       record {
@@ -181,7 +182,7 @@ module _ (int : ℕ) (some : 1 ≤ int) (pin : ℕ) (s : MachineSetup) (h : IsLi
   all_sent fuel zero n t hand l few g = at_clock hand (hand ++ bits_of (takes taken t 0)) (int * t) (int * t) 0 n refl (let e : int * 0 ≡ 0 = omega arith in omega (arith, few)) (no_clocks hand (hand ++ bits_of (takes taken t 0)) (int * t))
   all_sent zero (suc k) n t hand l few g = absurd (omega (arith, l))
   all_sent (suc fuel) (suc k) n t [] l few g =
-      waiting t n k g (all_sent fuel k (n - int) (t + 1) (bits_of (option_to_list (taken t))) (omega (arith, l)) (let m = mul_suc int k in let e : int * suc k ≡ int * (k + 1) = ap (λ j. int * j) (let q : suc k ≡ k + 1 = omega arith in q) in omega (arith, few, m, e))
+      waiting t n k g (all_sent fuel k (n - int) (t + 1) (bits_of (option_to_list (taken t))) (omega (arith, l)) (let m = mul-suc int k in omega (arith, few, m))
       (waits int pin s h is_pin mapped regs levels taken run words t g).next)
   all_sent (suc fuel) (suc k) n t (bit ∷ bits) l few g =
       let b = sends int pin s h is_pin mapped regs levels taken run words t bit bits g in
@@ -194,6 +195,6 @@ module _ (int : ℕ) (some : 1 ≤ int) (pin : ℕ) (s : MachineSetup) (h : IsLi
             (at_clock (bits ++ bits_of (takes taken t 10)) ((bits ++ bits_of (takes taken t 10)) ++ bits_of (takes taken (t + 10) (suc k - 10))) (int * (t + 10)) (int * t + 10 * int) (n - 10 * int) (n - 10 * int) (mul_add int t 10) refl
             (all_sent fuel (suc k - 10) (n - 10 * int) (t + 10) (bits ++ bits_of (takes taken t 10)) (omega (arith, l)) (omega (arith, few, few')) b.next))
         | inl short ↦
-            let few' : n - 10 * int ≡ 0 = let m = mul_up int (suc k) 10 (omega (arith, short)) in let e : int * 10 ≡ 10 * int = omega arith in omega (arith, few, m, e) in
+            let few' : n - 10 * int ≡ 0 = let m = mul-le-mul_left {m = suc k} {n = 10} int (omega (arith, short)) in let e : int * 10 ≡ 10 * int = omega arith in omega (arith, few, m, e) in
             at_clock (bits ++ bits_of (takes taken t 10)) (bits ++ bits_of (takes taken t (suc k))) (int * t + 10 * int) (int * t + 10 * int) 0 (n - 10 * int) refl (sym few') (no_clocks (bits ++ bits_of (takes taken t 10)) (bits ++ bits_of (takes taken t (suc k))) (int * t + 10 * int))
       ])

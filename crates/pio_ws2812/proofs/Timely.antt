@@ -1,5 +1,7 @@
 -- The transmitter sends what one feed gives it, each bit at its clock, and in the end a light reads all of them.
 use Rattle.std.proofs.Common.{◌≡◌, ℕ, suc, ◌+◌, ◌-◌, ◌*◌, ◌^◌, ◌<◌, ◌≤◌, nat_lt, min, Bool, true, false, cond, List, [], ◌∷◌, length, slice_get, refl, ap, subst, ◌∙◌, arith}
+use Rattle.std.proofs.Math.Nat.{mul-le-mul_left}
+use Rattle.std.proofs.lemmas.Bool.{lt-ltb}
 use Rattle.std.specs.List.{AllByRecursion}
 use Rattle.pin_matrix.specs.declared.setup.Setup.{Setup}
 use Rattle.block_core.specs.Block.{first_run}
@@ -14,7 +16,7 @@ use Rattle.pio_ws2812.specs.Feeding.{low_fed, pulses_fed, SendsInTime, SendsAll}
 use Rattle.pio_ws2812.specs.Transmitter.{IsTransmitter}
 use Rattle.pio_ws2812.proofs.InTime.{from_the_start}
 use Rattle.pio_ws2812.proofs.Instructions.{AreMapped}
-use Rattle.pio_ws2812.proofs.Numbers.{less_true, not_zero, mul_add, mul_up}
+use Rattle.pio_ws2812.proofs.Numbers.{not_zero, mul_add}
 use Rattle.pio_ws2812.proofs.Places.{length-bits_of}
 use Rattle.pio_ws2812.proofs.Running.{AreTold, step, front, step_words, held, ready, pulses_are}
 use Rattle.pio_ws2812.proofs.Sent.{told_by}
@@ -43,10 +45,10 @@ all_read : (int clocks bound j : ℕ) (bits : List Bool) → 1 ≤ int → 2 * i
 all_read int clocks bound j [] some l m enough = refl
 all_read int clocks bound j (bit ∷ bits) some l m enough =
     let start = int * (5 + 10 * j) in
-    let last : start + 7 * int < clocks = let a = mul_up int (5 + 10 * j + 7) (10 * (j + suc (length bits)) + 2) (omega arith) in let b = mul_add int (5 + 10 * j) 7 in omega (arith, a, b, enough) in
+    let last : start + 7 * int < clocks = let a = mul-le-mul_left {m = 5 + 10 * j + 7} {n = 10 * (j + suc (length bits)) + 2} int (omega arith) in let b = mul_add int (5 + 10 * j) 7 in omega (arith, a, b, enough) in
     let most = high_most int bit in
     let low = low_fed int (clocks - (start + high_of int bit)) bit bits in
-    ap (λ v. bits_read bound (cond {A = List Pulse} v (record { start = start; high = min (high_of int bit) (clocks - start); low = low } ∷ pulses_fed int clocks (j + 1) bits) [])) (less_true start clocks (omega (arith, last)))
+    ap (λ v. bits_read bound (cond {A = List Pulse} v (record { start = start; high = min (high_of int bit) (clocks - start); low = low } ∷ pulses_fed int clocks (j + 1) bits) [])) (lt-ltb start clocks (omega (arith, last)))
     ∙ ap (λ v. cond v [] (nat_lt bound (min (high_of int bit) (clocks - start)) ∷ bits_read bound (pulses_fed int clocks (j + 1) bits))) (not_zero low (some_low int (clocks - (start + high_of int bit)) bit bits some (omega (arith, last, most))))
     ∙ ap (λ k. nat_lt bound k ∷ bits_read bound (pulses_fed int clocks (j + 1) bits)) (let e : min (high_of int bit) (clocks - start) ≡ high_of int bit = omega (arith, last, most) in e)
     ∙ ap (λ v. v ∷ bits_read bound (pulses_fed int clocks (j + 1) bits)) (told_by int bound bit l m)
