@@ -1,5 +1,6 @@
 -- What one tick of a course makes of an open age.
 use Rattle.std.proofs.Common.{◌≡◌, ℕ, ◌+◌, ◌≤◌, ◌==◌, min, Bool, true, false, not, ◌&&◌, ◌||◌, if◌then◌else◌, nat_lt, unwrap_or, Option, Some, None, List, length, refl, sym, subst, ◌∙◌, arith}
+use Rattle.std.proofs.lemmas.Bool.{and_right, false≢true, or_from}
 use Rattle.std.proofs.lemmas.Bool.Decides.{nat_tests}
 use Rattle.pin_matrix.specs.declared.machine.MachineSetup.{MachineSetup}
 use Rattle.pin_matrix.specs.declared.span.Span.{Span}
@@ -15,9 +16,6 @@ use Rattle.span_step.specs.Steps.{bounds_of, are_edges_events, is_among, is_boun
 use Rattle.span_ticks.specs.UnderWay.{Watch}
 use Rattle.span_ticks.specs.Following.{InAges, IsAged, closes, finishes, opens, is_late, works}
 use Rattle.span_ticks.proofs.Clean.{Tick, IsClean, clean_tick}
-
-false≢true : false ≡ true → ⊥
-false≢true e = cc
 
 -- an age of ages that lie inside others is one of those
 pub inside_ages : (bounded : Bool) (n : ℕ) (a b : Ages) → IsInside a b → InAges bounded n a → InAges bounded n b
@@ -82,14 +80,6 @@ zero_kept bounded a ends false e = cc
 zero_kept bounded a true true e = zero_fresh bounded Empty
 zero_kept bounded a false true e = zero_fresh bounded a
 
-pub and_no : (a b : Bool) → b ≡ false → (a && b) ≡ false
-and_no true b h = h
-and_no false b h = refl
-
-or_no : (a b : Bool) → a ≡ false → b ≡ false → (a || b) ≡ false
-or_no true b h k = cc
-or_no false b h k = k
-
 -- an event of the step, in a tick in which the machine works at the row's instruction
 event_of : (watched : Option PinSignal) (at : List ℕ) (address : ℕ) (edge f works finishes : Bool) → works ≡ true → finishes ≡ f
     → comes edge (are_edges_events watched at address) f (is_end_event watched at address) ≡ is_event watched at address edge works finishes
@@ -121,7 +111,7 @@ tick_ages s sp address kind w t late free clean n i =
     record {
       most = up_to_most (is_bounded sp) _ _ _ m told.u1;
       least = from_least (is_bounded sp) _ _ _ _ m told.u2;
-      stays = λ h. kept_ages (is_bounded sp) _ _ _ _ m (or_no _ _ free h);
+      stays = λ h. kept_ages (is_bounded sp) _ _ _ _ m (or_from _ _ free h);
       named = λ b h. named_late t.late (is_bounded sp) (is_named sp address) n w.ages i told.u3 b (sym late ∙ h);
     }
 
@@ -183,7 +173,7 @@ waiting_age bounded false named n (Between lo hi) l h i = cc
 pub waiting_ages : (s : MachineSetup) (sp : Span) (address : ℕ) (i : Intent) (w : Watch) (t : Tick) → finishes (works i.kind None) i.stalled ≡ false → is_late i.kind ≡ true → t.late ≡ true
     → is_excusing sp address ≡ false → IsClean (watched (rules_of s sp address) w t).causes → (n : ℕ) → InAges (is_bounded sp) n w.ages → IsAged s sp address i.kind (closes sp address i w w) w n
 waiting_ages s sp address i w t waits late also free clean n a =
-    let told : IsAged s sp address i.kind (course.closes (rules_of s sp address) w t) (watched (rules_of s sp address) w t) n = tick_ages s sp address i.kind w t (late ∙ sym also) (and_no t.late _ free) clean n a in
+    let told : IsAged s sp address i.kind (course.closes (rules_of s sp address) w t) (watched (rules_of s sp address) w t) n = tick_ages s sp address i.kind w t (late ∙ sym also) (and_right t.late _ free) clean n a in
     record {
       most = told.most;
       least = λ h. absurd (false≢true (sym (no_closes sp address i w w refl waits) ∙ h));

@@ -1,5 +1,6 @@
 -- Where no cause is there at the end of a course, there was none on the way.
-use Rattle.std.proofs.Common.{◌≡◌, Bool, true, false, ◌&&◌, ◌||◌, if◌then◌else◌, None, List, [], ◌∷◌, refl}
+use Rattle.std.proofs.Common.{◌≡◌, Bool, true, false, ◌&&◌, if◌then◌else◌, None, List, [], ◌∷◌, refl}
+use Rattle.std.proofs.lemmas.Bool.{or_parts}
 use Rattle.span_step.specs.declared.cause.Causes.{Causes}
 use Rattle.span_step.specs.Courses.{Rules, watched, followed, delay_tick, joined}
 use Rattle.span_step.specs.Contexts.{Context}
@@ -30,23 +31,20 @@ clean_of c h = let p = clean_by c.u1 c.u2 c.u3 c.u4 c.u6 h in record { u1 = p.u1
 pub none_of : (c : Causes) → IsClean c → c.u6 ≡ false → first_cause c ≡ None
 none_of c h met = rw (h.u1, h.u2, h.u3, h.u4, met) refl
 
-pub none_left : (a b : Bool) → (a || b) ≡ false → a ≡ false
-none_left true b h = cc
-none_left false b h = refl
-
-pub none_right : (a b : Bool) → (a || b) ≡ false → b ≡ false
-none_right true b h = cc
-none_right false b h = h
-
 pub clean_left : (a b : Causes) → IsClean (joined a b) → IsClean a
-clean_left a b h = record { u1 = none_left _ _ h.u1; u2 = none_left _ _ h.u2; u3 = none_left _ _ h.u3; u4 = none_left _ _ h.u4 }
+clean_left a b h = record {
+  u1 = (or_parts a.u1 b.u1 h.u1).0;
+  u2 = (or_parts a.u2 b.u2 h.u2).0;
+  u3 = (or_parts a.u3 b.u3 h.u3).0;
+  u4 = (or_parts a.u4 b.u4 h.u4).0;
+}
 
 pub clean_right : (a b : Causes) → IsClean (joined a b) → IsClean b
 clean_right a b h = record {
-  u1 = none_right a.u1 b.u1 h.u1;
-  u2 = none_right a.u2 b.u2 h.u2;
-  u3 = none_right a.u3 b.u3 h.u3;
-  u4 = none_right a.u4 b.u4 h.u4;
+  u1 = (or_parts a.u1 b.u1 h.u1).1;
+  u2 = (or_parts a.u2 b.u2 h.u2).1;
+  u3 = (or_parts a.u3 b.u3 h.u3).1;
+  u4 = (or_parts a.u4 b.u4 h.u4).1;
 }
 
 pub clean_watched : (r : Rules) (w : Watch) (t : Tick) → IsClean (watched r w t).causes → IsClean w.causes

@@ -1,5 +1,6 @@
 -- A sound row's courses end in rows: taken from the step's fold to each outcome.
 use Rattle.std.proofs.Common.{◌≡◌, ℕ, Bool, true, false, Option, Some, None, List, [], ◌∷◌, ◌++◌, fold, is_some, slice_index_or, cond, refl, sym, ap, subst, ◌∙◌}
+use Rattle.std.proofs.lemmas.Bool.{or_parts}
 use Rattle.std.specs.List.{AllByRecursion}
 use Rattle.pin_matrix.specs.Followed.{followed}
 use Rattle.pin_matrix.specs.declared.machine.MachineSetup.{MachineSetup}
@@ -18,7 +19,7 @@ use Rattle.span_step.specs.Narrowing.{narrowing_after, narrowed, nexts_of, with_
 use Rattle.span_step.specs.Steps.{Visit, visit_of, end_after, with_end, end_of, with_outcome, with_unmet, nothing_found, wild_step, is_lost, step_by, machine_steps, context_steps}
 use Rattle.span_ticks.specs.Rows.{HasRow, IsSoundRow}
 use Rattle.span_ticks.specs.UnderWay.{Watch, op_at}
-use Rattle.span_ticks.proofs.Clean.{IsClean, clean_of, none_left, none_right, clean_left, clean_right}
+use Rattle.span_ticks.proofs.Clean.{IsClean, clean_of, clean_left, clean_right}
 use Rattle.span_ticks.proofs.Explained.{all_flat}
 use Rattle.span_ticks.proofs.Narrowing.{IsAtRows, at_rows}
 
@@ -109,7 +110,7 @@ known_row u sp rows s k a configured sound placed =
             ends = all_flat (IsAtRows rows (followed sp)) (λ n. narrowed found.narrowing n) found.ends all;
             clean = record { u1 = c.u1; u2 = c.u2; u3 = c.u3; u4 = c.u4 };
           } in
-          record { tame = none_left _ _ e; ends = (fine_outcomes rows sp (visit_of s sp (op_at u s k.address) k a) (nothing_found (narrowing_after sp k.address)) _ fine).1 }
+          record { tame = (or_parts _ _ e).0; ends = (fine_outcomes rows sp (visit_of s sp (op_at u s k.address) k a) (nothing_found (narrowing_after sp k.address)) _ fine).1 }
 
 -- a row of a sound table isn't lost: the machine begins with no pending word
 none_pending : (o : Option ℕ) → is_some o ≡ false → o ≡ None
@@ -123,7 +124,7 @@ begins_plain u sp rows s k a configured sound =
     let op : Op = op_at u s k.address in
     let same : context_steps u sp k a ≡ step_by s sp op k a = ap (λ m. machine_steps m u.memory sp k a) configured in
     let good : first_cause (step_by s sp op k a).causes ≡ None = subst (λ (x : Stepped). first_cause x.causes ≡ None) same sound.good in
-    none_pending s.pending (none_right (is_wild op.act) _ (by (is_lost s op) refl good)) where
+    none_pending s.pending ((or_parts (is_wild op.act) _ (by (is_lost s op) refl good)).1) where
       by : (z : Bool) → is_lost s (op_at u s k.address) ≡ z → first_cause (cond z (wild_step (narrowing_after sp k.address)) (with_unmet (fold (with_outcome (visit_of s sp (op_at u s k.address) k a)) (nothing_found (narrowing_after sp k.address)) (outcomes (op_at u s k.address).act s sp k)))).causes ≡ None → is_lost s (op_at u s k.address) ≡ false
       by true e h = cc
       by false e h = e

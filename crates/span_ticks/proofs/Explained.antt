@@ -1,7 +1,6 @@
 -- What an instruction does when it finishes is one of the outcomes that the checker knows of.
-use Rattle.std.proofs.Common.{◌≡◌, ℕ, ◌==◌, Bool, true, false, not, cond, if◌then◌else◌, Option, Some, None, List, [], ◌∷◌, ◌++◌, map, flat_map, refl, sym, ap, subst, ◌∙◌, rules, arith}
-use Rattle.std.proofs.lemmas.Bool.{and_parts}
-use Rattle.std.proofs.lemmas.Bool.Decides.{nat_tests}
+use Rattle.std.proofs.Common.{◌≡◌, ℕ, ◌==◌, Bool, true, false, not, cond, if◌then◌else◌, Option, Some, None, List, [], ◌∷◌, ◌++◌, map, flat_map, refl, sym, ap, subst, ◌∙◌, rules}
+use Rattle.std.proofs.lemmas.Bool.{and_parts, eqb-true}
 use Rattle.std.proofs.lemmas.Nat.Bits.{bit_at-zero}
 use Rattle.std.specs.Int.{bit_at}
 use Rattle.std.specs.List.{AllByRecursion}
@@ -30,7 +29,7 @@ use Rattle.sm_registers.specs.View.{View}
 use Rattle.sm_registers.specs.Queues.{Queues}
 use Rattle.sm_registers.specs.Effects.{Effect, fallen, counted_down, jumps, jmp_effect, wait_effect, in_effect, autopushed, out_to, out_effect, push_effect, pulled, pull_effect, mov_word, operated, mov_to, mov_effect, irq_effect, set_effect, effect_of}
 use Rattle.span_step.specs.Contexts.{Context}
-use Rattle.span_step.specs.Outcomes.{ContextOutcome, nothing_done, level_at, signal_at, is_held, either_level, has_one_signal, has_one_pin, unknown_levels, unknown_pins, is_zero, is_nonzero, differ, taken, after_count, ways, out_outcomes, copied, mov_outcomes, set_outcomes, outcomes, is_wild, may_stall}
+use Rattle.span_step.specs.Outcomes.{ContextOutcome, nothing_done, level_at, signal_at, is_held, either_level, has_one_signal, has_one_pin, unknown_levels, unknown_pins, is_zero, is_nonzero, differ, taken, after_count, ways, out_outcomes, copied, mov_outcomes, set_outcomes, outcomes, is_wild}
 use Rattle.span_step.specs.Outcomes as outcome
 use Rattle.span_ticks.specs.UnderWay.{Covers, flow_of}
 
@@ -286,11 +285,9 @@ all_levels Q signal m sp value = by (has_one_pin sp) refl where
   same : has_one_pin sp ≡ true → t ≡ f
   same e =
       let parts = and_parts (sp.from_pin == sp.to_pin) (has_one_signal sp.from_signal sp.to_signal) e in
-      let pin : sp.to_pin ≡ sp.from_pin = is_same sp.from_pin sp.to_pin parts.0 in
+      let pin : sp.to_pin ≡ sp.from_pin = sym (eqb-true sp.from_pin sp.to_pin parts.0) in
       let kind : sp.to_signal ≡ sp.from_signal = same_signal sp.from_signal sp.to_signal parts.1 in
-      ap (λ p. signal_at signal sp.to_signal p (writes_of m value)) pin ∙ ap (λ k. signal_at signal k sp.from_pin (writes_of m value)) kind where
-        is_same : (a b : ℕ) → (a == b) ≡ true → b ≡ a
-        is_same a b h = grind (arith, nat_tests)
+      ap (λ p. signal_at signal sp.to_signal p (writes_of m value)) pin ∙ ap (λ k. signal_at signal k sp.from_pin (writes_of m value)) kind
 
   by : (z : Bool) → has_one_pin sp ≡ z → AllByRecursion Q (cond z (map (λ l. (l, l)) from) (flat_map (λ f. map (λ t. (f, t)) to) from)) → Q (f, t)
   by true e h = subst (λ x. Q (f, x)) (sym (same e)) (one h)

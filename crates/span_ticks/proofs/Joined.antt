@@ -1,6 +1,6 @@
 -- A tick of an instruction is matched by a tick of one of its courses.
 use Rattle.std.proofs.Common.{◌≡◌, ℕ, nat_lt, ◌+◌, ◌==◌, ◌≤◌, ◌⊎◌, Bool, true, false, not, ◌&&◌, ◌||◌, if◌then◌else◌, Option, Some, None, is_some, unwrap_or, slice_index_or, refl, sym, ap, ◌∙◌, inl, inr, subst, arith}
-use Rattle.std.proofs.lemmas.Bool.{cases_lt}
+use Rattle.std.proofs.lemmas.Bool.{cases_lt, and_parts, and_right}
 use Rattle.pio_encode.specs.declared.op.Op.{Op}
 use Rattle.pin_matrix.specs.Followed as span
 use Rattle.pin_matrix.specs.declared.machine.MachineSetup.{MachineSetup}
@@ -25,12 +25,12 @@ use Rattle.span_ticks.specs.Rows.{IsInRow, IsSoundTable}
 use Rattle.span_ticks.specs.UnderWay.{Watch, Flow, flow_of, is_excused_in, IsContextOf, IsAtRow, IsResting, IsBegun, IsUnderWay, op_at, rested, stalled_from}
 use Rattle.span_ticks.specs.Following.{InAges, IsFollowed, IsAged, finishes, is_late, kept_after, works}
 use Rattle.span_ticks.proofs.Clean.{IsClean, clean_followed, clean_watched, met_watched}
-use Rattle.span_ticks.proofs.Aging.{IsTickOf, and_no, inside_ages, tick_ages, worked_ages, worked_fresh, waiting_ages, no_fresh}
+use Rattle.span_ticks.proofs.Aging.{IsTickOf, inside_ages, tick_ages, worked_ages, worked_fresh, waiting_ages, no_fresh}
 use Rattle.span_ticks.proofs.Ends.{EndsWell, AllEnds, IsKnownRow, known_row}
 use Rattle.span_ticks.proofs.Explained.{Picked, Explains, explained, writes_none}
 use Rattle.span_ticks.proofs.Stalls.{IsStall, stalls, Found, found}
 use Rattle.span_ticks.proofs.Opened.{delay_here, tick_here, flow_done, flow_stalled, tick_levels, over_levels, side_from, side_to, side_late}
-use Rattle.span_ticks.proofs.Narrowing.{and_left, narrow}
+use Rattle.span_ticks.proofs.Narrowing.{narrow}
 use Rattle.span_ticks.proofs.Resting.{rested_none, delay_clean, delay_followed, rests_after, still_delayed}
 
 late_is : (begun : Bool) → is_late (if begun then Late else First) ≡ begun
@@ -95,7 +95,7 @@ prompt_clean u sp rows s k a o ends = clean_followed (rules_of s sp k.address) (
 kept_stalled : (sp : Span) (address : ℕ) (op : Op) (s : MachineSetup) (q : Queues) (r : Registers) (e : Effect) → e.stalled ≡ true → kept_after sp true address (tick_by op s q r e) ≡ true
 unfolding tick_by
 kept_stalled sp address op s q r e stalled =
-    ap (λ z. if z then keeps sp.assume address (tick_by op s q r e).0.x (tick_by op s q r e).0.y else true) (and_no (works (if r.begun then Late else First) None) (not e.stalled) (ap not stalled))
+    ap (λ z. if z then keeps sp.assume address (tick_by op s q r e).0.x (tick_by op s q r e).0.y else true) (and_right (works (if r.begun then Late else First) None) (not e.stalled) (ap not stalled))
 
 tick_kind : (sp : Span) (address : ℕ) (op : Op) (s : MachineSetup) (q : Queues) (r : Registers) (e : Effect)
     → kept_after sp true address (tick_by op s q r e) ≡ (if finishes (works (if r.begun then Late else First) None) e.stalled then keeps sp.assume address (tick_by op s q r e).0.x (tick_by op s q r e).0.y else true)
@@ -202,7 +202,7 @@ late_stall u sp rows s q r k a e here begun may st stalled =
     let op : Op = op_at u s k.address in
     let w : Watch = stalled_from u sp s k a in
     let one : Found (AllEnds rows sp (narrowing_after sp k.address) (visit_of s sp op k a)) = found _ op.act s sp k here.known.tame here.known.ends in
-    let waits : finishes (works (if r.begun then Late else First) None) e.stalled ≡ false = and_no _ _ (ap not stalled) in
+    let waits : finishes (works (if r.begun then Late else First) None) e.stalled ≡ false = and_right _ _ (ap not stalled) in
     record {
       after = w;
       under_way = λ stays. inr (
@@ -284,7 +284,7 @@ AreKnown u sp rows s = (k : Context) (a : Ages) → is_placed (span.followed sp)
 pub are_known : (u : Setup) (sp : Span) (rows : Context → Option Ages) (s : MachineSetup) → slice_index_or u.machines sp.machine None ≡ Some s → IsSoundTable u sp rows
     → ((k : Context) (a : Ages) → nat_lt k.address 32 ≡ true → AllPlaced (span.followed sp) (nexts_of (context_steps u sp k a))) → AreKnown u sp rows s
 are_known u sp rows s configured table within k a placed row =
-    known_row u sp rows s k a configured (table.row k a placed row) (within k a (and_left (nat_lt k.address 32) _ placed))
+    known_row u sp rows s k a configured (table.row k a placed row) (within k a (and_parts (nat_lt k.address 32) _ placed).0)
 
 -- a machine at its instruction is in a row
 resting_here : (u : Setup) (sp : Span) (rows : Context → Option Ages) (s : MachineSetup) (r : Registers) (w : Watch) → AreKnown u sp rows s → r.delay ≡ 0 → r.pending ≡ None → (h : IsAtRow sp rows s (flow_of r) w)

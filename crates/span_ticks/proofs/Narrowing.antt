@@ -1,6 +1,6 @@
 -- Where X and Y are left as the span assumes, one of the contexts that can come next agrees with the machine.
 use Rattle.std.proofs.Common.{◌≡◌, ℕ, zero, suc, ◌+◌, ◌-◌, ◌<◌, ◌≤◌, ◌==◌, min, max, nat_le, ◌⊎◌, inl, inr, Bool, true, false, not, ◌&&◌, ◌||◌, cond, Option, Some, None, List, [], ◌∷◌, map, refl, sym, ap, subst, arith}
-use Rattle.std.proofs.lemmas.Bool.{cases_lt}
+use Rattle.std.proofs.lemmas.Bool.{cases_lt, and_from, and_parts, leb-true}
 use Rattle.std.proofs.lemmas.Bool.Decides.{nat_tests}
 use Rattle.std.specs.List.{AllByRecursion, flat_map, list_all, range_with_len}
 use Rattle.pin_matrix.specs.Followed.{followed}
@@ -19,34 +19,20 @@ use Rattle.span_ticks.specs.Rows.{HasRow}
 use Rattle.span_ticks.specs.UnderWay.{Covers}
 use Rattle.span_ticks.proofs.Explained.{all_front}
 
-pub and_left : (a b : Bool) → (a && b) ≡ true → a ≡ true
-and_left true b h = refl
-and_left false b h = h
-
-pub and_right : (a b : Bool) → (a && b) ≡ true → b ≡ true
-and_right true b h = h
-and_right false b h = absurd (let x : false ≡ true = h in cc)
-
-and_both : (a b : Bool) → a ≡ true → b ≡ true → (a && b) ≡ true
-and_both true b h k = k
-and_both false b h k = h
-
-or_right : (a b : Bool) → a ≡ true → (not a || b) ≡ true → b ≡ true
-or_right true b e h = h
-or_right false b e h = absurd (let x : false ≡ true = e in cc)
-
 -- a number in two ranges is in what they have in common
 within_meet : (a b : Option Range) (n : ℕ) → is_within a n ≡ true → is_within b n ≡ true → is_within (meet a b) n ≡ true
 within_meet None b n h k = k
 within_meet (Some r) None n h k = h
 within_meet (Some r) (Some s) n h k =
-    let low : r.lo ≤ n = grind (arith, nat_tests, and_left (nat_le r.lo n) (nat_le n r.hi) h) in
-    let high : n ≤ r.hi = grind (arith, nat_tests, and_right (nat_le r.lo n) (nat_le n r.hi) h) in
-    let also : s.lo ≤ n = grind (arith, nat_tests, and_left (nat_le s.lo n) (nat_le n s.hi) k) in
-    let too : n ≤ s.hi = grind (arith, nat_tests, and_right (nat_le s.lo n) (nat_le n s.hi) k) in
+    let p = and_parts (nat_le r.lo n) (nat_le n r.hi) h in
+    let q = and_parts (nat_le s.lo n) (nat_le n s.hi) k in
+    let low : r.lo ≤ n = leb-true r.lo n p.0 in
+    let high : n ≤ r.hi = leb-true n r.hi p.1 in
+    let also : s.lo ≤ n = leb-true s.lo n q.0 in
+    let too : n ≤ s.hi = leb-true n s.hi q.1 in
     let below : max r.lo s.lo ≤ n = omega (arith, low, also) in
     let above : n ≤ min r.hi s.hi = omega (arith, high, too) in
-    and_both (nat_le (max r.lo s.lo) n) (nat_le n (min r.hi s.hi)) (grind (arith, nat_tests, below)) (grind (arith, nat_tests, above))
+    and_from (nat_le (max r.lo s.lo) n) (nat_le n (min r.hi s.hi)) (grind (arith, nat_tests, below)) (grind (arith, nat_tests, above))
 
 -- X and Y are in these ranges
 record AreWithin (found : Option Range × Option Range) (x y : ℕ) : Type 0 where
@@ -58,8 +44,8 @@ within_one : (address x y : ℕ) (found : Option Range × Option Range) (a : Ass
 within_one address x y found a h k = by (a.address == address) k where
   by : (z : Bool) → (not z || (is_within a.x x && is_within a.y y)) ≡ true → AreWithin (cond z (meet found.0 a.x, meet found.1 a.y) found) x y
   by true k = record {
-    of_x = within_meet found.0 a.x x h.of_x (and_left (is_within a.x x) (is_within a.y y) k);
-    of_y = within_meet found.1 a.y y h.of_y (and_right (is_within a.x x) (is_within a.y y) k);
+    of_x = within_meet found.0 a.x x h.of_x (and_parts (is_within a.x x) (is_within a.y y) k).0;
+    of_y = within_meet found.1 a.y y h.of_y (and_parts (is_within a.x x) (is_within a.y y) k).1;
   }
   by false k = h
 
@@ -69,9 +55,8 @@ within_all : (address x y : ℕ) (found : Option Range × Option Range) (items :
 unfolding with_assumptions
 within_all address x y found [] h k = h
 within_all address x y found (a ∷ items) h k =
-    let here = and_left (not (a.address == address) || (is_within a.x x && is_within a.y y)) (list_all (λ a. not (a.address == address) || (is_within a.x x && is_within a.y y)) items) k in
-    let rest = and_right (not (a.address == address) || (is_within a.x x && is_within a.y y)) (list_all (λ a. not (a.address == address) || (is_within a.x x && is_within a.y y)) items) k in
-    within_all address x y (with_assumption address found a) items (within_one address x y found a h here) rest
+    let both = and_parts (not (a.address == address) || (is_within a.x x && is_within a.y y)) (list_all (λ a. not (a.address == address) || (is_within a.x x && is_within a.y y)) items) k in
+    within_all address x y (with_assumption address found a) items (within_one address x y found a h both.0) both.1
 
 -- one of a list
 abbrev Of : Option ℕ → List (Option ℕ) → Type 0
@@ -93,8 +78,9 @@ one_number lo (suc n) i h k = elim (cases_lt lo i) [
 pick : (r : Option Range) (known : Option ℕ) (n : ℕ) → is_within r n ≡ true → Covers known n → Picked (kept r known) n
 pick None known n is covers = record { known = known; one = inl refl; covers = covers }
 pick (Some r) None n is covers =
-    let low : r.lo ≤ n = grind (arith, nat_tests, and_left (nat_le r.lo n) (nat_le n r.hi) is) in
-    let high : n ≤ r.hi = grind (arith, nat_tests, and_right (nat_le r.lo n) (nat_le n r.hi) is) in
+    let p = and_parts (nat_le r.lo n) (nat_le n r.hi) is in
+    let low : r.lo ≤ n = leb-true r.lo n p.0 in
+    let high : n ≤ r.hi = leb-true n r.hi p.1 in
     record { known = Some n; one = one_number r.lo (r.hi + 1 - r.lo) n low (omega (arith, low, high)); covers = refl }
 pick (Some r) (Some m) n is covers =
     let e : is_in r m ≡ true = subst (λ x. is_in r x ≡ true) covers is in

@@ -1,5 +1,6 @@
 -- What an instruction that stalls does, and that each instruction has an outcome.
 use Rattle.std.proofs.Common.{◌≡◌, ℕ, Bool, true, false, not, ◌&&◌, cond, Option, Some, None, [], ◌∷◌, refl, sym, ◌∙◌, rules}
+use Rattle.std.proofs.lemmas.Bool.{and_parts}
 use Rattle.std.specs.List.{AllByRecursion}
 use Rattle.pio_encode.specs.declared.act.Act.{Act}
 use Rattle.pio_encode.specs.declared.act.Act.TheVariants.{Jmp, Wait, In, Out, Push, Pull, Mov, Irq, Set, Nothing}
@@ -44,14 +45,10 @@ stall_if : (may : Bool) (r : Registers) (b : Bool) (x y : Effect) → (b ≡ tru
 stall_if may r true x y h k = h refl
 stall_if may r false x y h k = k refl
 
-and_left : (a b : Bool) → (a && b) ≡ true → a ≡ true
-and_left true b h = refl
-and_left false b h = h
-
 stall_autopushed : (s : MachineSetup) (q : Queues) (r x : Registers) → flow_of x ≡ flow_of r → IsStall s.autopush r (autopushed s q x)
 stall_autopushed s q r x h =
     stall_if s.autopush r _ _ _
-    (λ e. stall_if s.autopush r q.rx_full _ _ (λ f. stall_by s.autopush r _ (and_left _ _ e) refl refl h) (λ f. stall_done s.autopush r _ refl))
+    (λ e. stall_if s.autopush r q.rx_full _ _ (λ f. stall_by s.autopush r _ (and_parts _ _ e).0 refl refl h) (λ f. stall_done s.autopush r _ refl))
     (λ e. stall_done s.autopush r _ refl)
 
 stall_in : (s : MachineSetup) (q : Queues) (b : Bool) (r x : Registers) → flow_of x ≡ flow_of r → IsStall s.autopush r (autopushed s q (cond b r x))
@@ -105,7 +102,7 @@ unfolding effect_of may_stall jmp_effect wait_effect in_effect out_effect push_e
 stalls (Jmp c address) s v q r = stall_done false r _ refl
 stalls (Wait polarity source index) s v q r = search (rules, stall_if, stall_done, stall_by)
 stalls (In source n) s v q r = stall_in s q r.begun r _ refl
-stalls (Out d n) s v q r = search (rules, stall_if, stall_by, and_left, stall_out_to)
+stalls (Out d n) s v q r = search (rules, stall_if, stall_by, and_parts, stall_out_to)
 stalls (Push if_full block) s v q r = search (rules, stall_if, stall_done, stall_block) depth 20
 stalls (Pull if_empty block) s v q r = search (rules, stall_if, stall_done, stall_pulled)
 stalls (Mov d o source) s v q r = stall_mov_to false d _ s r
