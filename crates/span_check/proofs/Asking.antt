@@ -5,7 +5,8 @@ use Rattle.span_check.specs.Asked.{HoldsBetween, IsNeverEarly}
 use Rattle.span_check.specs.Holding.{Holds}
 use Rattle.span_check.specs.Marks.{Mark}
 
-no_bound : IsSome {T = ℕ} None → ⊥
+-- no greatest bound is there
+pub no_bound : IsSome {T = ℕ} None → ⊥
 no_bound e = cc
 
 pub asks_between : (unit : SpanUnit) (min max : ℕ) (m : ℕ → Mark) (n : ℕ) → Holds unit min (Some max) m n ↔ HoldsBetween unit min max m n

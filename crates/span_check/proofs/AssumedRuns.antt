@@ -1,5 +1,6 @@
 -- Rows of runs in which an instruction leaves X otherwise than a span assumes, worked by hand.
-use Rattle.std.proofs.Common.{◌≡◌, ℕ, zero, suc, ◌<◌, ◌≤◌, Bool, true, false, Some, None, [], ◌∷◌, refl, arith}
+use Rattle.std.proofs.Common.{◌≡◌, ℕ, zero, suc, ◌<◌, ◌≤◌, true, false, Some, None, [], ◌∷◌, refl, arith}
+use Rattle.std.proofs.lemmas.Bool.{both_ways}
 use Rattle.clock_divider.specs.Ticks.{is_tick}
 use Rattle.fifo_pair.specs.Fifos.{settled}
 use Rattle.pio_encode.specs.Word.{reading_of, act_of, push_or_pull_at, delay_of, side_of, mov_at, set_at}
@@ -57,12 +58,9 @@ missed-count : (counted missed 0 3 ≡ 2) × (counted missed 0 4 ≡ 3) × ((mis
 unfolding program missed mark_of counted hosted_at hosted_next next stepped acted settled_slot is_tick settled merged reading_of act_of push_or_pull_at delay_of side_of set_at mov_at effect_of jmp_effect out_effect pull_effect set_effect mov_effect settled_ports tick_of tick_delay tick_word tick_by after_effect due_in transfers_after requests_of
 missed-count = (refl, refl, refl, refl, refl, refl, refl, refl)
 
-never : {b : Bool} → b ≡ true → b ≡ false → ⊥
-never h k = cc
-
 -- up to clock 3, in which the delay is over, X is as assumed
 assumed_before_3 : IsAssumed missed 3
-assumed_before_3 zero zero misses from before = absurd (never misses missed-row.0)
+assumed_before_3 zero zero misses from before = absurd (both_ways _ missed-row.0 misses)
 assumed_before_3 (suc f) zero misses from before = absurd (omega (arith, from))
 assumed_before_3 f (suc zero) misses from before = missed-row.4
 assumed_before_3 f (suc (suc zero)) misses from before = missed-row.5
@@ -86,13 +84,13 @@ missed_in_the_delay h = omega (arith, missed-count.0, h.unclosed quiet_before_3 
 
 -- and of the third nothing is said, nor of the to-edge
 unspoken_from_3_on : (end : ℕ) → 3 < end → IsSpokenOf Ticks missed 0 end → ⊥
-unspoken_from_3_on end after spoken = never missed-row.6 (spoken.assumed 1 3 missed-row.1 (omega arith) after)
+unspoken_from_3_on end after spoken = both_ways _ (spoken.assumed 1 3 missed-row.1 (omega arith) after) missed-row.6
 
 low_at_4 : (e : ℕ) → 0 < e → (missed e).to ≡ true → 3 < e
 low_at_4 zero after edge = absurd (omega (arith, after))
-low_at_4 (suc zero) after edge = absurd (never edge missed-row.8)
-low_at_4 (suc (suc zero)) after edge = absurd (never edge missed-row.9)
-low_at_4 (suc (suc (suc zero))) after edge = absurd (never edge missed-row.10)
+low_at_4 (suc zero) after edge = absurd (both_ways _ missed-row.8 edge)
+low_at_4 (suc (suc zero)) after edge = absurd (both_ways _ missed-row.9 edge)
+low_at_4 (suc (suc (suc zero))) after edge = absurd (both_ways _ missed-row.10 edge)
 low_at_4 (suc (suc (suc (suc e)))) after edge = omega arith
 
 straying_none : (c : ℕ) → 0 < c → c < 5 → (missed c).strays ≡ false
@@ -120,4 +118,4 @@ unfolding undelayed mark_of counted hosted_at hosted_next next stepped acted set
 undelayed-row = (refl, refl, refl, refl, refl)
 
 undelayed_unspoken : IsSpokenOf Ticks undelayed 0 2 → ⊥
-undelayed_unspoken spoken = never undelayed-row.2 (spoken.assumed 1 1 undelayed-row.1 (omega arith) (omega arith))
+undelayed_unspoken spoken = both_ways _ (spoken.assumed 1 1 undelayed-row.1 (omega arith) (omega arith)) undelayed-row.2

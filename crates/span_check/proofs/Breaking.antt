@@ -1,7 +1,6 @@
 -- What breaks a span in clocks are lines of the clock, and those alone that disable the span's machine or restart its divider.
 use Rattle.std.proofs.Common.{◌≡◌, ◌≢◌, ◌∙◌, ℕ, zero, suc, ◌<◌, ◌==◌, ◌||◌, ◌⊎◌, inl, inr, Bool, true, false, List, [], ◌∷◌, length, set, get_or, refl, sym, subst, ap, arith}
-use Rattle.std.proofs.lemmas.Bool.{cases_eq}
-use Rattle.std.proofs.lemmas.Bool.Decides.{nat_tests}
+use Rattle.std.proofs.lemmas.Bool.{cases_eq, eq-eqb, ne_eqb}
 use Rattle.std.proofs.lemmas.List.{get_or-set_same, get_or-set_other, length-set}
 use Rattle.std.specs.List.{list_any}
 use Rattle.pin_matrix.specs.declared.setup.Setup.{Setup}
@@ -23,17 +22,11 @@ record IsOfFour (d : Due) : Type 0 where
   disable : length d.disable ≡ 4
   restart : length d.restart ≡ 4
 
-same_number : (n m : ℕ) → n ≡ m → (n == m) ≡ true
-same_number n m e = grind (arith, nat_tests)
-
-other_number : (n m : ℕ) → n ≢ m → (n == m) ≡ false
-other_number n m e = grind (arith, nat_tests)
-
 flag_set : (xs : List Bool) (k m : ℕ) → m < length xs → get_or (set xs k true) m false ≡ ((k == m) || get_or xs m false)
 flag_set xs k m l = on (cases_eq k m) where
   on : (k ≡ m) ⊎ (k ≢ m) → get_or (set xs k true) m false ≡ ((k == m) || get_or xs m false)
-  on (inl e) = rw (same_number k m e) (subst (λ j. get_or (set xs j true) m false ≡ true) (sym e) (get_or-set_same xs m true false l))
-  on (inr n) = rw (other_number k m n) (get_or-set_other xs k m true false (λ e. n (sym e)))
+  on (inl e) = rw (eq-eqb k m e) (subst (λ j. get_or (set xs j true) m false ≡ true) (sym e) (get_or-set_same xs m true false l))
+  on (inr n) = rw (ne_eqb k m n) (get_or-set_other xs k m true false (λ e. n (sym e)))
 
 or_inside : (a b c : Bool) → ((a || b) || c) ≡ (a || (b || c))
 or_inside true b c = refl

@@ -1,18 +1,12 @@
 -- Open from-edges, clock by clock.
-use Rattle.std.proofs.Common.{◌≡◌, ℕ, zero, suc, ◌+◌, ◌<◌, ◌≤◌, nat_lt, Bool, true, false, ◌⊎◌, inl, inr, cond, refl, sym, subst, arith}
-use Rattle.std.proofs.lemmas.Bool.Decides.{nat_tests}
+use Rattle.std.proofs.Common.{◌≡◌, ℕ, zero, suc, ◌+◌, ◌<◌, ◌≤◌, Bool, true, false, ◌⊎◌, inl, inr, cond, refl, sym, subst, arith}
+use Rattle.std.proofs.lemmas.Bool.{lt-ltb, le-ltb}
 use Rattle.span_check.specs.Marks.{Mark}
 use Rattle.span_check.specs.Holding.{counted, IsAssumed, IsQuiet, IsUnexcused}
 
 -- 1 where it is so
 abbrev pub one_if : Bool → ℕ
 one_if b = cond b 1 0
-
-lt_yes : (a b : ℕ) → a < b → nat_lt a b ≡ true
-lt_yes a b h = grind (arith, nat_tests)
-
-lt_no : (a b : ℕ) → b ≤ a → nat_lt a b ≡ false
-lt_no a b h = grind (arith, nat_tests)
 
 pub before_suc : (a c : ℕ) → a < suc c → (a < c) ⊎ (a ≡ c)
 before_suc a c h = grind arith
@@ -24,12 +18,12 @@ counted-none m s zero h = refl
 counted-none m s (suc c) h =
     let le : c ≤ s = omega arith in
     let none : counted m s c ≡ 0 = counted-none m s c (omega arith) in
-    rw (none, lt_no s c le) refl
+    rw (none, le-ltb s c le) refl
 
 -- after it each clock counts if it does
 pub counted-suc : (m : ℕ → Mark) (s c : ℕ) → s < c → counted m s (suc c) ≡ counted m s c + one_if (m c).counts
 unfolding counted
-counted-suc m s c h = rw (lt_yes s c h) refl
+counted-suc m s c h = rw (lt-ltb s c h) refl
 
 pub quiet-before : (m : ℕ → Mark) (s c : ℕ) → IsQuiet m s (suc c) → IsQuiet m s c
 quiet-before m s c h d after before = h d after (omega arith)

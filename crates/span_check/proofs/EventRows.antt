@@ -1,5 +1,6 @@
 -- Worked rows of events in the program: edges that named instructions make, and ends of instructions.
-use Rattle.std.proofs.Common.{◌≡◌, ℕ, suc, ◌<◌, ◌≤◌, Bool, true, false, Some, None, [], ◌∷◌, refl, subst, arith}
+use Rattle.std.proofs.Common.{◌≡◌, ℕ, suc, ◌<◌, ◌≤◌, true, false, Some, None, [], ◌∷◌, refl, subst, arith}
+use Rattle.std.proofs.lemmas.Bool.{both_ways}
 use Rattle.pin_matrix.specs.declared.setup.Setup.{Setup}
 use Rattle.pin_matrix.specs.declared.span.SpanUnit.TheVariants.{Ticks}
 use Rattle.dreq_pacing.specs.declared.line.LineAct.TheVariants.{Tx}
@@ -22,9 +23,6 @@ use Rattle.span_check.specs.Holding.{counted, HoldsFrom, IsSpokenOf}
 use Rattle.span_check.specs.Runs.{marks_in}
 use Rattle.span_check.proofs.Plain.{plain_spoken}
 use Rattle.span_check.proofs.WorkedSetups.{plain_machine, side_one, pin_0, block_of, ends_of, made_at, span_of}
-
-never : {b : Bool} → b ≡ true → b ≡ false → ⊥
-never h k = cc
 
 -- a machine works at its instruction in the first tick and in late ones, unless a word is pending; it finishes where it doesn't stall
 works-row : (works First None ≡ true) × (works Late None ≡ true) × (works Delay None ≡ false) × (works Off None ≡ false) × (works First (Some 0) ≡ false) × (works Late (Some 0) ≡ false)
@@ -53,7 +51,7 @@ ends-hold : HoldsFrom Ticks 1 (Some 1) ends 8 6
 ends-hold = record {
   least = λ e to before spoken. at_7 (λ c. 1 ≤ counted ends 6 (suc c)) (omega (arith, ends-row.7)) e to.after before;
   most = λ e to before spoken. at_7 (λ c. counted ends 6 (suc c) ≤ 1) (omega (arith, ends-row.7)) e to.after before;
-  unclosed = λ quiet spoken. absurd (never ends-row.5 (quiet 7 (omega arith) (omega arith)));
+  unclosed = λ quiet spoken. absurd (both_ways _ (quiet 7 (omega arith) (omega arith)) ends-row.5);
   strays = λ some c after before quiet spoken. at_7 (λ k. (ends k).strays ≡ false) ends-row.6 c after before;
 }
 

@@ -1,5 +1,6 @@
 -- Rows of what it means that a span holds, worked by hand on the marks of some clocks, and of which lines break one.
-use Rattle.std.proofs.Common.{◌≡◌, ℕ, zero, suc, ◌-◌, ◌<◌, ◌≤◌, ◌==◌, nat_le, Bool, true, false, Some, None, IsSome, [], ◌∷◌, map, refl, sym, ◌∙◌, subst, arith}
+use Rattle.std.proofs.Common.{◌≡◌, ℕ, zero, suc, ◌-◌, ◌<◌, ◌≤◌, ◌==◌, nat_le, Bool, true, false, Some, None, [], ◌∷◌, map, refl, sym, ◌∙◌, subst, arith}
+use Rattle.std.proofs.lemmas.Bool.{eqb-true, false≢true}
 use Rattle.std.proofs.lemmas.Bool.Decides.{nat_tests}
 use Rattle.pin_matrix.specs.declared.span.SpanUnit.{SpanUnit}
 use Rattle.pin_matrix.specs.declared.span.SpanUnit.TheVariants.{Ticks, Clocks}
@@ -9,6 +10,7 @@ use Rattle.dreq_pacing.specs.Due.{quiet}
 use Rattle.span_check.specs.Marks.{Mark, is_broken}
 use Rattle.span_check.specs.Holding.{counted, IsQuiet, IsFirstToEdge, IsAssumed, IsUnbroken, IsUnbrokenIn, IsSpokenOf, Holds, HoldsFrom}
 use Rattle.span_check.specs.Runs.{is_breaking}
+use Rattle.span_check.proofs.Asking.{no_bound}
 
 -- The from-edge comes in clock 2, and the to-edge in clock 4. Each clock has a tick that counts. These clocks have a line that breaks
 -- the span, and these a late tick at an address that it doesn't name.
@@ -86,23 +88,17 @@ straying_in_clocks min max holds =
     let e = (holds 2 (omega arith) refl).strays refl 3 (omega arith) (omega arith) quiet_before_3 (spoken_row _ _ Clocks 4 (λ c after before. refl)) in cc
 
 -- Without a greatest bound it holds with at least 2, in both units: neither the wait nor a longer time is amiss.
-no_bound : IsSome {T = ℕ} None → ⊥
-no_bound e = cc
-
-same : (n m : ℕ) → (n == m) ≡ true → m ≡ n
-same n m e = grind (arith, nat_tests)
-
 straying_freely_in_ticks : Holds Ticks 2 None straying 5
-straying_freely_in_ticks s below from = subst (HoldsFrom Ticks 2 None straying 5) (same s 2 from) (record {
-  least = λ e ends inside spoken. subst (λ k. 2 ≤ counted straying 2 (suc k)) (same e 4 ends.edge) (omega (arith, two_row nowhere (λ c. c == 3)));
+straying_freely_in_ticks s below from = subst (HoldsFrom Ticks 2 None straying 5) (sym (eqb-true s 2 from)) (record {
+  least = λ e ends inside spoken. subst (λ k. 2 ≤ counted straying 2 (suc k)) (sym (eqb-true e 4 ends.edge)) (omega (arith, two_row nowhere (λ c. c == 3)));
   most = λ e ends inside spoken. tt;
   unclosed = λ quiet spoken. tt;
   strays = λ some. absurd (no_bound some);
 })
 
 straying_freely_in_clocks : Holds Clocks 2 None straying 5
-straying_freely_in_clocks s below from = subst (HoldsFrom Clocks 2 None straying 5) (same s 2 from) (record {
-  least = λ e ends inside spoken. subst (λ k. 2 ≤ suc k - 1 - 2) (same e 4 ends.edge) (omega arith);
+straying_freely_in_clocks s below from = subst (HoldsFrom Clocks 2 None straying 5) (sym (eqb-true s 2 from)) (record {
+  least = λ e ends inside spoken. subst (λ k. 2 ≤ suc k - 1 - 2) (sym (eqb-true e 4 ends.edge)) (omega arith);
   most = λ e ends inside spoken. tt;
   unclosed = λ quiet spoken. tt;
   strays = λ some. absurd (no_bound some);
@@ -120,12 +116,9 @@ early_in_clocks_freely holds = omega (arith, (holds 2 (omega arith) refl).least 
 abbrev endless : ℕ → Mark
 endless c = record { from = c == 2; to = false; counts = true; strays = false; breaks = false; excused = c == 6; misses = false; rested = true }
 
-never_true : false ≡ true → ⊥
-never_true e = cc
-
 endless_freely : (min n : ℕ) → Holds Ticks min None endless n
 endless_freely min n s below from = record {
-  least = λ e ends inside spoken. absurd (never_true ends.edge);
+  least = λ e ends inside spoken. absurd (false≢true ends.edge);
   most = λ e ends inside spoken. tt;
   unclosed = λ quiet spoken. tt;
   strays = λ some. absurd (no_bound some);
@@ -236,7 +229,7 @@ missed_after holds =
       (holds 2 (omega arith) refl).least 4 (missing_first 5 0) (omega arith)
           (record {
             free = λ c after before. refl;
-            assumed = λ f c misses from before. absurd (let e : 5 ≡ f = same f 5 misses in omega (arith, e, from, before));
+            assumed = λ f c misses from before. absurd (let e : 5 ≡ f = sym (eqb-true f 5 misses) in omega (arith, e, from, before));
             unbroken = λ c after before. refl;
           }),
     )

@@ -1,5 +1,6 @@
 -- A span with neither `prompt` nor `without` nor an assumption excuses and misses nothing, and one between edges of any instruction looks at edges alone.
-use Rattle.std.proofs.Common.{◌≡◌, ◌↔◌, ℕ, suc, ◌==◌, Bool, true, false, not, ◌&&◌, ◌||◌, Option, Some, None, IsSome, List, [], refl, sym, ap, ◌∙◌}
+use Rattle.std.proofs.Common.{◌≡◌, ◌↔◌, ℕ, suc, ◌==◌, Bool, true, false, not, ◌&&◌, ◌||◌, Option, Some, None, IsSome, List, [], refl, ap, ◌∙◌}
+use Rattle.std.proofs.lemmas.Bool.{both_ways}
 use Rattle.std.specs.List.{list_all, list_any}
 use Rattle.pin_matrix.specs.declared.assume.Assumption.{Assumption}
 use Rattle.pin_matrix.specs.declared.span.PinSignal.{PinSignal}
@@ -55,16 +56,13 @@ plain_kept sp memory seen host states clock plain =
     let place = place_at (states clock) sp.machine in
     none_missed (finishes (works tick.kind (pending_at place)) tick.stalled) (keeps_at sp (pc_at place) (place_at (states (suc clock)) sp.machine)) (all_kept sp (pc_at place) (place_at (states (suc clock)) sp.machine) plain)
 
-absent : (b : Bool) → b ≡ false → b ≡ true → ⊥
-absent b e h = let x : false ≡ true = sym e ∙ h in cc
-
 pub plain_spoken : (sp : Span) (memory : List ℕ) (seen : ℕ → ℕ) (host : ℕ → Due) (states : ℕ → BlockState) (unit : SpanUnit) (s end : ℕ) → IsPlain sp
     → IsSpokenOf unit (marks_over sp memory seen host states) s end ↔ IsUnbrokenIn unit (marks_over sp memory seen host states) s end
 plain_spoken sp memory seen host states unit s end plain = (
   λ h. h.unbroken,
   λ h. record {
     free = λ c after before. plain_free sp memory seen host states c plain;
-    assumed = λ f c misses from before. absurd (absent _ (plain_kept sp memory seen host states f plain) misses);
+    assumed = λ f c misses from before. absurd (both_ways _ (plain_kept sp memory seen host states f plain) misses);
     unbroken = h;
   },
 )

@@ -1,6 +1,6 @@
 -- A closed and good table, and what the laws of the block say of a run, put together.
-use Rattle.std.proofs.Common.{◌≡◌, ◌==◌, ℕ, zero, suc, ◌+◌, ◌<◌, nat_le, nat_lt, Bool, true, false, not, ◌&&◌, ◌||◌, cond, Option, Some, None, option_map, IfSome, List, [], ◌∷◌, length, unwrap_or, slice_index_or, refl, ap, sym, subst, ◌∙◌, arith}
-use Rattle.std.proofs.lemmas.Bool.{and_parts, or_parts, and_from}
+use Rattle.std.proofs.Common.{◌≡◌, ◌==◌, ℕ, zero, suc, ◌+◌, ◌<◌, nat_le, nat_lt, Bool, true, false, not, ◌&&◌, ◌||◌, cond, Option, Some, None, option_map, IfSome, List, [], ◌∷◌, length, unwrap_or, slice_index_or, refl, ap, sym, subst, ◌∙◌, arith, add-zero, zero-add}
+use Rattle.std.proofs.lemmas.Bool.{and_parts, or_parts, and_from, eqb-true, ne_eqb}
 use Rattle.std.proofs.lemmas.Bool.Decides.{nat_tests}
 use Rattle.std.specs.Int.{bit_at}
 use Rattle.std.specs.List.{AllByRecursion, Contains}
@@ -100,12 +100,9 @@ may-not p signal sp None of h = tt
 may-not p Level sp (Some s) of h = leaves-level (holds s.out p) (holds s.set p) s.side_rule.pindirs (holds s.side p) (of s h)
 may-not p Direction sp (Some s) of h = leaves-direction (holds s.out p) (holds s.set p) s.side_rule.pindirs (holds s.side p) (of s h)
 
-not-own : (m own : ℕ) → (m ≡ own → ⊥) → (m == own) ≡ false
-not-own m own h = grind (arith, nat_tests, h)
-
 not-shared : (u : Setup) (sp : Span) → IsUnshared u sp → (m : ℕ) → (m ≡ sp.machine → ⊥) → may_write (slice_index_or u.machines m None) sp ≡ false
 unfolding shares
-not-shared u sp h m apart = by (m == sp.machine) (not-own m sp.machine apart) (h m) where
+not-shared u sp h m apart = by (m == sp.machine) (ne_eqb m sp.machine apart) (h m) where
   by : (own : Bool) → own ≡ false → (not own && may_write (slice_index_or u.machines m None) sp) ≡ false → may_write (slice_index_or u.machines m None) sp ≡ false
   by true e f = cc
   by false e f = f
@@ -130,13 +127,8 @@ place_id place i [] s h e = cc
 place_id place zero (None ∷ machines) s h e = cc
 place_id place zero (Some m ∷ machines) s h e =
     let same : m ≡ s = ap (λ (o : Option MachineSetup). unwrap_or o m) e in
-    let id : m.id ≡ place = is_same m.id place (and_parts (m.id == place) (ids_are_places (place + 1) machines) h).0 in
-    ap (λ (x : MachineSetup). x.id) (sym same) ∙ id ∙ here where
-      is_same : (a b : ℕ) → (a == b) ≡ true → a ≡ b
-      is_same a b f = grind (arith, nat_tests)
-
-      here : place ≡ place + 0
-      here = omega arith
+    let id : m.id ≡ place = eqb-true m.id place (and_parts (m.id == place) (ids_are_places (place + 1) machines) h).0 in
+    ap (λ (x : MachineSetup). x.id) (sym same) ∙ id ∙ sym (add-zero place)
 place_id place (suc i) (None ∷ machines) s h e = place_id (place + 1) i machines s h e ∙ on where
   on : place + 1 + i ≡ place + suc i
   on = omega arith
@@ -214,10 +206,8 @@ module _ (laws : Laws) (u : Setup) (sp : Span) (s : MachineSetup) (configured : 
   run_of = record {
     m = first_slot s;
     slot = first-place;
-    id = place_id 0 sp.machine u.machines s u.at_their_places configured ∙ from_zero sp.machine;
+    id = place_id 0 sp.machine u.machines s u.at_their_places configured ∙ zero-add sp.machine;
     clock = refl;
     period_is = refl;
     after = after-each;
-  } where
-    from_zero : (n : ℕ) → 0 + n ≡ n
-    from_zero n = omega arith
+  }

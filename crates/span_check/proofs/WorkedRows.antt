@@ -1,6 +1,6 @@
 -- Worked rows: what the definitions give for runs that were worked out by hand.
-use Rattle.std.proofs.Common.{◌≡◌, ℕ, zero, suc, ◌<◌, ◌≤◌, Bool, true, false, Option, Some, None, IsSome, [], ◌∷◌, refl, subst, inl, inr, arith}
-use Rattle.std.proofs.lemmas.Bool.{cases_lt}
+use Rattle.std.proofs.Common.{◌≡◌, ℕ, zero, suc, ◌<◌, ◌≤◌, Bool, true, false, Option, Some, None, [], ◌∷◌, refl, subst, inl, inr, arith}
+use Rattle.std.proofs.lemmas.Bool.{cases_lt, both_ways}
 use Rattle.pin_matrix.specs.declared.setup.Setup.{Setup}
 use Rattle.pin_matrix.specs.declared.span.Span.{Span}
 use Rattle.pin_matrix.specs.declared.span.SpanUnit.TheVariants.{Ticks, Clocks}
@@ -24,6 +24,7 @@ use Rattle.span_ticks.specs.UnderWay.{Flow, is_excused_in}
 use Rattle.span_check.specs.Asked.{IsPlain}
 use Rattle.span_check.proofs.Plain.{plain_spoken}
 use Rattle.span_check.proofs.WorkedSetups.{plain_machine, pulling, side_one, side_one_opt, pin_0, block_of, span_of, span_from, turn_of, prompt_of, without_of}
+use Rattle.span_check.proofs.Asking.{no_bound}
 
 -- a UART transmitter: `pull side 1 [7]`, `set x, 7 side 0 [7]`, `out pins, 1`, `jmp x-- 2 [6]`
 uart : Setup
@@ -75,9 +76,6 @@ freely-row : ((freely 0).from ≡ true) × ((freely 1).strays ≡ true) × ((fre
 unfolding waiting freely mark_of counted hosted_at hosted_next next stepped acted settled_slot is_tick settled merged reading_of act_of push_or_pull_at delay_of side_of set_at mov_at effect_of jmp_effect out_effect pull_effect set_effect mov_effect settled_ports tick_of tick_delay tick_word tick_by after_effect due_in transfers_after requests_of
 freely-row = (refl, refl, refl, refl, refl, refl, refl, refl, refl, refl)
 
-never : {b : Bool} → b ≡ true → b ≡ false → ⊥
-never h k = cc
-
 high_before_7 : IsQuiet freely 0 7
 high_before_7 zero after before = absurd (omega (arith, after))
 high_before_7 (suc zero) after before = freely-row.4
@@ -90,16 +88,13 @@ high_before_7 (suc (suc (suc (suc (suc (suc (suc c))))))) after before = absurd 
 
 first_at_7 : (e : ℕ) → IsFirstToEdge freely 0 e → e < 8 → 7 ≡ e
 first_at_7 e ends inside = elim (cases_lt e 7) [
-  | inl early ↦ absurd (never ends.edge (high_before_7 e ends.after early))
+  | inl early ↦ absurd (both_ways _ (high_before_7 e ends.after early) ends.edge)
   | inr late ↦ omega (arith, late, inside)
 ]
 
 -- such a span excuses nothing
 plain : {sp : Span} → sp.prompt ≡ false → sp.without ≡ [] → sp.assume ≡ [] → IsPlain sp
 plain h k a = record { waits = h; leaves = k; assumes = a }
-
-no_bound : IsSome {T = ℕ} None → ⊥
-no_bound e = cc
 
 -- its late ticks count, and are not amiss: with at least 7 it holds, and with at least 8 it doesn't
 freely-holds : HoldsFrom Ticks 7 None freely 8 0
@@ -159,7 +154,7 @@ disabled-in-ticks h = omega (arith, h.least 5 high_until_5.0 (omega arith) ((pla
 
 -- of a span in clocks nothing is said
 disabled-in-clocks : IsSpokenOf Clocks disabled 2 6 → ⊥
-disabled-in-clocks h = never disabled-row.2 (h.unbroken 3 (omega arith) (omega arith))
+disabled-in-clocks h = both_ways _ (h.unbroken 3 (omega arith) (omega arith)) disabled-row.2
 
 -- `set pins, 1 [2]`, `set pins, 0`; the machine is restarted in clock 0, enabled in clock 1, as it was before, and disabled in clock
 -- 4, and another one in clock 2
@@ -227,7 +222,7 @@ one_clock (suc (suc c)) after before = absurd (omega (arith, before))
 -- a late tick in the clock of the to-edge is one too many
 late_fall-breaks : HoldsFrom Ticks 0 (Some 9) late_fall 3 0 → ⊥
 unfolding late_fall
-late_fall-breaks h = never late_fall-row.4 (h.strays refl 2 (omega arith) (omega arith) one_clock ((plain_spoken _ _ _ _ _ Ticks 0 3 (plain refl refl refl)).1 tt))
+late_fall-breaks h = both_ways _ (h.strays refl 2 (omega arith) (omega arith) one_clock ((plain_spoken _ _ _ _ _ Ticks 0 3 (plain refl refl refl)).1 tt)) late_fall-row.4
 
 -- `out pins, 1` with autopull, which waits for two ticks, and `set pins, 0`: its last late tick, in clock 2, is that of the from-edge
 late_rise : ℕ → Mark
@@ -245,7 +240,7 @@ late_rise-holds : HoldsFrom Ticks 1 (Some 1) late_rise 4 2
 late_rise-holds = record {
   least = λ e to before spoken. between (λ c. 1 ≤ counted late_rise 2 (suc c)) (omega (arith, late_rise-row.4)) e to.after before;
   most = λ e to before spoken. between (λ c. counted late_rise 2 (suc c) ≤ 1) (omega (arith, late_rise-row.4)) e to.after before;
-  unclosed = λ quiet spoken. absurd (never late_rise-row.2 (quiet 3 (omega arith) (omega arith)));
+  unclosed = λ quiet spoken. absurd (both_ways _ (quiet 3 (omega arith) (omega arith)) late_rise-row.2);
   strays = λ some c after before quiet spoken. between (λ k. (late_rise k).strays ≡ false) late_rise-row.3 c after before;
 }
 
@@ -280,7 +275,7 @@ prompted-row = (refl, refl, refl, refl, refl, refl, refl, refl)
 
 -- so in both units nothing is said of its high time
 prompted-unspoken : IsSpokenOf Clocks prompted 0 7 → ⊥
-prompted-unspoken h = never prompted-row.2 (h.free 1 (omega arith) (omega arith))
+prompted-unspoken h = both_ways _ (h.free 1 (omega arith) (omega arith)) prompted-row.2
 
 -- where the address is named it isn't excused
 prompted_named : ℕ → Mark
