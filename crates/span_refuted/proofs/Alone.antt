@@ -1,7 +1,6 @@
 -- The run of a setup without stimulus lines, for a span whose pins no other machine may write.
-use Rattle.std.proofs.Common.{◌≡◌, ◌==◌, ℕ, zero, suc, ◌+◌, ◌<◌, Bool, true, false, not, ◌&&◌, ◌||◌, Option, Some, None, option_map, is_some, cond, if◌then◌else◌, IfSome, List, [], ◌∷◌, unwrap_or, slice_index_or, refl, sym, ap, subst, ◌∙◌, arith}
-use Rattle.std.proofs.lemmas.Bool.{and_parts, or_parts}
-use Rattle.std.proofs.lemmas.Bool.Decides.{nat_tests}
+use Rattle.std.proofs.Common.{◌≡◌, ◌==◌, ℕ, zero, suc, ◌+◌, ◌<◌, Bool, true, false, not, ◌&&◌, ◌||◌, Option, Some, None, option_map, is_some, cond, if◌then◌else◌, IfSome, List, [], ◌∷◌, unwrap_or, slice_index_or, refl, sym, ap, subst, ◌∙◌, arith, add-zero, zero-add}
+use Rattle.std.proofs.lemmas.Bool.{and_parts, or_parts, eqb-true, ne_eqb}
 use Rattle.std.specs.Int.{bit_at}
 use Rattle.pin_matrix.specs.Pins.{is_high, last_of}
 use Rattle.pin_matrix.specs.Setups.{ids_are_places}
@@ -67,12 +66,9 @@ may_not : (p : ℕ) (sp : Span) (m : Option MachineSetup) → ((s : MachineSetup
 may_not p sp None of h = tt
 may_not p sp (Some s) of h = leaves_by (holds s.out p) (holds s.set p) s.side_rule.pindirs (holds s.side p) (of s h)
 
-not_own : (m own : ℕ) → (m ≡ own → ⊥) → (m == own) ≡ false
-not_own m own h = grind (arith, nat_tests, h)
-
 not_shared : (u : Setup) (sp : Span) → IsUnshared u sp → (m : ℕ) → (m ≡ sp.machine → ⊥) → may_write (slice_index_or u.machines m None) sp ≡ false
 unfolding shares
-not_shared u sp h m apart = by (m == sp.machine) (not_own m sp.machine apart) (h m) where
+not_shared u sp h m apart = by (m == sp.machine) (ne_eqb m sp.machine apart) (h m) where
   by : (own : Bool) → own ≡ false → (not own && may_write (slice_index_or u.machines m None) sp) ≡ false → may_write (slice_index_or u.machines m None) sp ≡ false
   by true e f = cc
   by false e f = f
@@ -91,13 +87,8 @@ place_id place i [] s h e = cc
 place_id place zero (None ∷ machines) s h e = cc
 place_id place zero (Some m ∷ machines) s h e =
     let same : m ≡ s = ap (λ (o : Option MachineSetup). unwrap_or o m) e in
-    let id : m.id ≡ place = is_same m.id place (and_parts (m.id == place) (ids_are_places (place + 1) machines) h).0 in
-    ap (λ (x : MachineSetup). x.id) (sym same) ∙ id ∙ here where
-      is_same : (a b : ℕ) → (a == b) ≡ true → a ≡ b
-      is_same a b f = grind (arith, nat_tests)
-
-      here : place ≡ place + 0
-      here = omega arith
+    let id : m.id ≡ place = eqb-true m.id place (and_parts (m.id == place) (ids_are_places (place + 1) machines) h).0 in
+    ap (λ (x : MachineSetup). x.id) (sym same) ∙ id ∙ sym (add-zero place)
 place_id place (suc i) (None ∷ machines) s h e = place_id (place + 1) i machines s h e ∙ on where
   on : place + 1 + i ≡ place + suc i
   on = omega arith
@@ -129,9 +120,6 @@ begins : (u : Setup) (lines : List Line) → state_beside u lines 0 ≡ first_st
 unfolding hosted_at
 begins u lines = refl
 
-from_zero : (n : ℕ) → 0 + n ≡ n
-from_zero n = omega arith
-
 run_alone : AreRuns → (u : Setup) (sp : Span) (s : MachineSetup) → slice_index_or u.machines sp.machine None ≡ Some s → IsSimple sp → IsUnshared u sp → IsRun sp s u.memory (seen_beside u []) (host_of (first_run u) []) (state_beside u [])
 run_alone runs u sp s configured simple alone = record {
   after = λ c. record {
@@ -140,7 +128,7 @@ run_alone runs u sp s configured simple alone = record {
     from = runs.own_pins u u.memory (seen_beside u []) (host_of (first_run u) []) (state_beside u []) (begins u []) (follows runs u []) sp.machine sp.from_pin sp.from_pin_is_a_pin (others_from u sp simple alone) c;
     to = runs.own_pins u u.memory (seen_beside u []) (host_of (first_run u) []) (state_beside u []) (begins u []) (follows runs u []) sp.machine sp.to_pin sp.to_pin_is_a_pin (others_to u sp simple alone) c;
   };
-  id = place_id 0 sp.machine u.machines s u.at_their_places configured ∙ from_zero sp.machine;
+  id = place_id 0 sp.machine u.machines s u.at_their_places configured ∙ zero-add sp.machine;
 }
 
 -- it begins with the first visit

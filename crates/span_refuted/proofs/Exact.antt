@@ -1,7 +1,6 @@
 -- In a run the ages of a course are those of from-edges: the least is that of one that is open, and so is the greatest.
 use Rattle.std.proofs.Common.{◌≡◌, ℕ, zero, suc, ◌+◌, ◌<◌, ◌≤◌, ◌⊎◌, min, nat_lt, Bool, true, false, ◌&&◌, cond, if◌then◌else◌, Some, None, inl, inr, refl, sym, ap, subst, ◌∙◌, arith}
-use Rattle.std.proofs.lemmas.Bool.{cases_lt}
-use Rattle.std.proofs.lemmas.Bool.Decides.{nat_tests}
+use Rattle.std.proofs.lemmas.Bool.{cases_lt, both_ways, lt-ltb, le-ltb, and_right}
 use Rattle.pin_matrix.specs.declared.span.SpanUnit.TheVariants.{Ticks}
 use Rattle.span_step.specs.declared.ages.Ages.{Ages}
 use Rattle.span_step.specs.declared.ages.Ages.TheVariants.{Empty, Between}
@@ -30,13 +29,10 @@ pub record IsFree (m : ℕ → Mark) : Type 0 where
   pub excused : (c : ℕ) → (m c).excused ≡ false
   pub misses : (c : ℕ) → (m c).misses ≡ false
 
-absent : (b : Bool) → b ≡ false → b ≡ true → ⊥
-absent b e h = let x : false ≡ true = sym e ∙ h in cc
-
 spoken : (m : ℕ → Mark) (s end : ℕ) → IsFree m → IsSpokenOf Ticks m s end
 spoken m s end free = record {
   free = λ c after before. free.excused c;
-  assumed = λ f c misses from before. absurd (absent (m f).misses (free.misses f) misses);
+  assumed = λ f c misses from before. absurd (both_ways (m f).misses (free.misses f) misses);
   unbroken = tt;
 }
 
@@ -44,26 +40,17 @@ spoken m s end free = record {
 abbrev pub IsBrokenBy : (bounded : Bool) (min max : ℕ) → (ℕ → Mark) → Type 0
 IsBrokenBy bounded min max m = (n : ℕ) × (Holds Ticks min (if bounded then Some max else None) m n → ⊥)
 
-before_suc : (a c : ℕ) → a < suc c → (a < c) ⊎ (a ≡ c)
-before_suc a c h = grind arith
-
-lt_yes : (a b : ℕ) → a < b → nat_lt a b ≡ true
-lt_yes a b h = grind (arith, nat_tests)
-
-lt_no : (a b : ℕ) → b ≤ a → nat_lt a b ≡ false
-lt_no a b h = grind (arith, nat_tests)
-
 counted_none : (m : ℕ → Mark) (s c : ℕ) → c ≤ suc s → counted m s c ≡ 0
 unfolding counted
 counted_none m s zero h = refl
 counted_none m s (suc c) h =
     let le : c ≤ s = omega arith in
     let none : counted m s c ≡ 0 = counted_none m s c (omega arith) in
-    rw (none, lt_no s c le) refl
+    rw (none, le-ltb s c le) refl
 
 counted_more : (m : ℕ → Mark) (s c : ℕ) → s < c → (m c).counts ≡ true → counted m s (suc c) ≡ counted m s c + 1
 unfolding counted
-counted_more m s c h e = rw (lt_yes s c h, e) refl
+counted_more m s c h e = rw (lt-ltb s c h, e) refl
 
 counted_same : (m : ℕ → Mark) (s c : ℕ) → (m c).counts ≡ false → counted m s (suc c) ≡ counted m s c
 unfolding counted
@@ -73,7 +60,7 @@ counted_same m s c e = rw e (on (nat_lt s c)) where
   on false = omega arith
 
 quiet_on : (m : ℕ → Mark) (s c : ℕ) → IsQuiet m s c → (m c).to ≡ false → IsQuiet m s (suc c)
-quiet_on m s c q e d after before = elim (before_suc d c before) [ inl less ↦ q d after less | inr same ↦ rw same e ]
+quiet_on m s c q e d after before = elim (cases_lt d c) [ inl less ↦ q d after less | inr more ↦ let same : d ≡ c = omega (arith, before, more) in rw same e ]
 
 -- a clock without a tick changes nothing
 since_idle : (m : ℕ → Mark) (c n : ℕ) → (m c).counts ≡ false → (m c).to ≡ false → IsSince m c n → IsSince m (suc c) n
@@ -142,10 +129,6 @@ exact_fresh : (bounded : Bool) (m : ℕ → Mark) (most c : ℕ) → (m c).from 
 exact_fresh true m most c e = (omega arith, (omega arith, (since_fresh m c e, since_fresh m c e)))
 exact_fresh false m most c e = λ l. since_fresh m c e
 
-and_none : (b x : Bool) → x ≡ false → (b && x) ≡ false
-and_none true x e = e
-and_none false x e = refl
-
 -- the rules are those of a span with a greatest bound or without one, whose least is up to the age at which ages stop then, and whose
 -- events are edges that any instruction may make
 pub record IsRuled (bounded : Bool) (r : Rules) : Type 0 where
@@ -165,7 +148,7 @@ exact_between r m c lo hi closes opens free e f g h = elim (cases_lt r.max (hi +
     | inl broken ↦ inl broken
     | inr early ↦ inr (record {
       exact = subst (λ x. AreExact true m r.max (suc c) (after_events closes opens x)) (sym (one_older r.max lo hi h.0 h.1.0)) (left closes opens f g fine);
-      clean = record { u1 = and_none r.bounded _ (lt_no r.max _ (capped r.max hi fine)); u2 = early; u3 = refl; u4 = refl };
+      clean = record { u1 = and_right r.bounded _ (le-ltb r.max _ (capped r.max hi fine)); u2 = early; u3 = refl; u4 = refl };
     })
   ]
 ] where
@@ -183,7 +166,7 @@ exact_between r m c lo hi closes opens free e f g h = elim (cases_lt r.max (hi +
   too_early : (z : Bool) → (m c).to ≡ z → IsBrokenBy true r.min r.max m ⊎ ((z && is_below r.min (older r.max (Between lo hi))) ≡ false)
   too_early true q = elim (cases_lt (lo + 1) r.min) [
     | inl less ↦ inl (below_breaks true r.min r.max m c lo free e q h.1.1.0 less)
-    | inr enough ↦ inr (lt_no _ r.min (uncapped r.max lo r.min (let a = h.0 in let b = h.1.0 in omega arith) enough))
+    | inr enough ↦ inr (le-ltb _ r.min (uncapped r.max lo r.min (let a = h.0 in let b = h.1.0 in omega arith) enough))
   ]
   too_early false q = inr refl
 
@@ -218,7 +201,7 @@ exact_from r m c lo hi closes opens ruled free e f g h = elim (too_early closes 
   too_early : (z : Bool) → (m c).to ≡ z → IsBrokenBy false r.min r.max m ⊎ ((z && is_below r.min (older r.max (Between lo hi))) ≡ false)
   too_early true q = elim (cases_lt (min lo r.max + 1) r.min) [
     | inl less ↦ inl (below_breaks false r.min r.max m c lo free e q (h (early_low r.max lo r.min (ruled.stops refl) less)) (early_count r.max lo r.min (ruled.stops refl) less))
-    | inr enough ↦ inr (lt_no _ r.min enough)
+    | inr enough ↦ inr (le-ltb _ r.min enough)
   ]
   too_early false q = inr refl
 
@@ -232,7 +215,7 @@ pub exact_tick : (bounded : Bool) (r : Rules) (m : ℕ → Mark) (c : ℕ) (a : 
     → AreExact bounded m r.max c a → IsBrokenBy bounded r.min r.max m ⊎ GoesWell bounded r m c a closes opens
 exact_tick bounded r m c Empty closes opens ruled free e f g h = inr (record {
   exact = left closes opens g;
-  clean = record { u1 = and_none r.bounded false refl; u2 = and_none closes false refl; u3 = refl; u4 = refl };
+  clean = record { u1 = and_right r.bounded false refl; u2 = and_right closes false refl; u3 = refl; u4 = refl };
 }) where
   left : (z o : Bool) → (m c).from ≡ o → AreExact bounded m r.max (suc c) (after_events z o Empty)
   left true true q = exact_fresh bounded m r.max c q

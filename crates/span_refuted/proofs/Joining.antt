@@ -1,7 +1,7 @@
 -- A course from joined ages ends with joined ages, without cause where neither has one.
 use Rattle.std.proofs.Common.{◌≡◌, ℕ, ◌+◌, ◌≤◌, Bool, true, false, not, ◌&&◌, ◌||◌, if◌then◌else◌, Some, None, List, [], ◌∷◌, refl, arith}
 use Rattle.std.proofs.lemmas.Bool.Decides.{nat_tests}
-use Rattle.std.proofs.lemmas.Bool.{or_from}
+use Rattle.std.proofs.lemmas.Bool.{or_from, or_parts}
 use Rattle.span_step.specs.declared.ages.Ages.{Ages}
 use Rattle.span_step.specs.declared.ages.Ages.TheVariants.{Empty, Between}
 use Rattle.span_step.specs.declared.cause.Causes.{Causes}
@@ -41,24 +41,24 @@ but_met c h = record { u1 = h.u1; u2 = h.u2; u3 = h.u3; u4 = h.u4 }
 pub met_too : (c : Causes) → IsClean (record c { u6 = false }) → IsClean c
 met_too c h = record { u1 = h.u1; u2 = h.u2; u3 = h.u3; u4 = h.u4 }
 
-or_left : (a b : Bool) → (a || b) ≡ false → a ≡ false
-or_left true b h = h
-or_left false b h = refl
-
-or_right : (a b : Bool) → (a || b) ≡ false → b ≡ false
-or_right true b h = absurd (bad h) where
-  bad : true ≡ false → ⊥
-  bad e = cc
-or_right false b h = h
-
 pub clean_joined : (a b : Causes) → IsClean a → IsClean b → IsClean (joined a b)
 clean_joined a b h k = record { u1 = or_from _ _ h.u1 k.u1; u2 = or_from _ _ h.u2 k.u2; u3 = or_from _ _ h.u3 k.u3; u4 = or_from _ _ h.u4 k.u4 }
 
 pub clean_left : (a b : Causes) → IsClean (joined a b) → IsClean a
-clean_left a b h = record { u1 = or_left _ _ h.u1; u2 = or_left _ _ h.u2; u3 = or_left _ _ h.u3; u4 = or_left _ _ h.u4 }
+clean_left a b h = record {
+  u1 = (or_parts a.u1 b.u1 h.u1).0;
+  u2 = (or_parts a.u2 b.u2 h.u2).0;
+  u3 = (or_parts a.u3 b.u3 h.u3).0;
+  u4 = (or_parts a.u4 b.u4 h.u4).0;
+}
 
 pub clean_right : (a b : Causes) → IsClean (joined a b) → IsClean b
-clean_right a b h = record { u1 = or_right _ _ h.u1; u2 = or_right _ _ h.u2; u3 = or_right _ _ h.u3; u4 = or_right _ _ h.u4 }
+clean_right a b h = record {
+  u1 = (or_parts a.u1 b.u1 h.u1).1;
+  u2 = (or_parts a.u2 b.u2 h.u2).1;
+  u3 = (or_parts a.u3 b.u3 h.u3).1;
+  u4 = (or_parts a.u4 b.u4 h.u4).1;
+}
 
 -- the causes of a tick, which are none of its own where it is excused
 clean_kept : (excused : Bool) (a b : Causes) → IsClean (if excused then a else joined a b) → IsClean a

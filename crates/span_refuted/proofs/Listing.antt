@@ -1,7 +1,7 @@
 -- A table as a list of rows, from what it says of each number.
 use Rattle.std.proofs.Common.{◌≡◌, ℕ, zero, suc, ◌+◌, ◌*◌, ◌/◌, ◌%◌, ◌<◌, ◌≤◌, ◌==◌, Bool, true, false, cond, nat_lt, Some, None, List, [], ◌∷◌, refl, ◌∙◌, inl, inr, arith}
 use Rattle.std.proofs.Math.Nat.{div-lt_iff_lt-mul}
-use Rattle.std.proofs.lemmas.Bool.{and_parts, cases_lt}
+use Rattle.std.proofs.lemmas.Bool.{and_parts, cases_lt, eq-eqb, ne_eqb, lt-ltb}
 use Rattle.std.proofs.lemmas.Bool.Decides.{nat_tests}
 use Rattle.pin_matrix.specs.Followed.{followed}
 use Rattle.pin_matrix.specs.declared.assume.Follow.{Follow}
@@ -60,9 +60,7 @@ unfolding contexts
 address_fits d i l = divided (i / 4 / (d.y + 2)) (d.x + 2) 32 (omega arith) (divided (i / 4) (d.y + 2) ((d.x + 2) * 32) (omega arith) (below_parts i ((d.y + 2) * ((d.x + 2) * 32)) l))
 
 address_below : (d : Follow) (i : ℕ) → i < contexts d → nat_lt (i / 4 / (d.y + 2) / (d.x + 2)) 32 ≡ true
-address_below d i l = decide _ (address_fits d i l) where
-  decide : (a : ℕ) → a < 32 → nat_lt a 32 ≡ true
-  decide a h = grind (arith, nat_tests)
+address_below d i l = lt-ltb _ 32 (address_fits d i l)
 
 pub placed_at : (d : Follow) (i : ℕ) → i < contexts d → is_placed d (context_at d i).address (context_at d i).x (context_at d i).y ≡ true
 unfolding context_at
@@ -87,12 +85,6 @@ unfolding rows_of
 table_of nums d f n zero l = tt
 table_of nums d f n (suc m) l = with_table nums d n (f n) _ (omega arith) (table_of nums d f (n + 1) m (omega arith))
 
-same_test : (n : ℕ) → (n == n) ≡ true
-same_test n = grind (arith, nat_tests)
-
-other_test : (n i : ℕ) → n < i → (n == i) ≡ false
-other_test n i l = grind (arith, nat_tests)
-
 absent_with : AreNumbers → (d : Follow) (n i : ℕ) (e : Entry) (rows : List Row) → i < n → entry_at d rows i ≡ Absent → entry_at d (with_row d n e rows) i ≡ Absent
 absent_with nums d n i Absent rows l h = h
 absent_with nums d n i (Present a) rows l h = rw (nums.number d n, (let q : (n == i) ≡ false = grind (arith, nat_tests) in q)) h
@@ -104,11 +96,11 @@ absent_above nums d f n (suc m) i l = absent_with nums d n i (f n) _ l (absent_a
 
 here : AreNumbers → (d : Follow) (f : ℕ → Entry) (n m : ℕ) (e : Entry) → entry_at d (with_row d n e (rows_of d f (n + 1) m)) n ≡ e
 here nums d f n m Absent = absent_above nums d f (n + 1) m n (omega arith)
-here nums d f n m (Present a) = rw (nums.number d n, same_test n) refl
+here nums d f n m (Present a) = rw (nums.number d n, eq-eqb n n refl) refl
 
 there : AreNumbers → (d : Follow) (n i : ℕ) (e : Entry) (rows : List Row) → n < i → entry_at d (with_row d n e rows) i ≡ entry_at d rows i
 there nums d n i Absent rows l = refl
-there nums d n i (Present a) rows l = rw (nums.number d n, other_test n i l) refl
+there nums d n i (Present a) rows l = rw (nums.number d n, ne_eqb n i (λ e. omega (arith, e, l))) refl
 
 pub entry_of : AreNumbers → (d : Follow) (f : ℕ → Entry) (n m i : ℕ) → n ≤ i → i < n + m → entry_at d (rows_of d f n m) i ≡ f i
 unfolding rows_of

@@ -116,9 +116,6 @@ first_tick u s sp k v q r pc o simple memory h settled quick only =
       tick = subst (λ a. IsTick sp (over (side_of s sp (instruction_at u s pc).side).from o.from) (over (side_of s sp (instruction_at u s pc).side).to o.to) (address_after o.jump (next_address s a)) (instruction_at u s pc).delay (tick_word (instruction_at u s pc) s v q r)) h.pc
           (tick_finished (instruction_at u s pc) s sp q r o (effect_of (instruction_at u s pc).act s v q r) simple h.pending h.begun (explained (instruction_at u s pc).act s sp k v q r o simple settled quick only))
 
-less_one : (d : ℕ) → suc d - 1 ≡ d
-less_one d = omega arith
-
 pub delay_tick : (s : MachineSetup) (sp : Span) (v : View) (q : Queues) (r : Registers) (pc d : ℕ) → IsRest r pc (suc d) → IsTick sp None None pc d (tick_of s v q r)
 unfolding tick_of tick_delay
 delay_tick s sp v q r pc d h = subst (λ b. IsTick sp None None pc d (cond b (tick_delay s q r) (tick_word (reading_of (current_word v r) s.side_rule) s v q r))) (sym test) tick where
@@ -130,7 +127,7 @@ delay_tick s sp v q r pc d h = subst (λ b. IsTick sp None None pc d (cond b (ti
 
   tick : IsTick sp None None pc d (tick_delay s q r)
   tick = record {
-    rest = rest_refilled s q _ _ _ (record { pc = h.pc; left = ap (λ n. n - 1) h.left ∙ less_one d; pending = h.pending; begun = h.begun });
+    rest = rest_refilled s q _ _ _ (record { pc = h.pc; left = ap (λ n. n - 1) h.left ∙ (let e : suc d - 1 ≡ d = omega arith in e); pending = h.pending; begun = h.begun });
     counting = λ named. refl;
     from = no_levels sp.from_pin;
     to = no_levels sp.to_pin;

@@ -1,5 +1,6 @@
 -- The table of the visits so far: at each context the ages of all visits there and between.
 use Rattle.std.proofs.Common.{◌≡◌, ℕ, zero, suc, ◌+◌, ◌<◌, ◌≤◌, ◌⊎◌, ◌==◌, Bool, true, false, cond, if◌then◌else◌, refl, inl, inr, arith}
+use Rattle.std.proofs.lemmas.Bool.{eq-eqb}
 use Rattle.std.proofs.lemmas.Bool.Decides.{nat_tests}
 use Rattle.pin_matrix.specs.declared.assume.Follow.{Follow}
 use Rattle.span_step.specs.declared.ages.Ages.{Ages}
@@ -27,12 +28,9 @@ by_test d P v i e h k = on (number_of d v.0 == i) refl where
   on true q = h (grind (arith, nat_tests))
   on false q = k
 
-same_test : (n : ℕ) → (n == n) ≡ true
-same_test n = grind (arith, nat_tests)
-
 pub at_visit : (d : Follow) (v : ℕ → Context × Ages) (n : ℕ) → table d v (suc n) (number_of d (v n).0) ≡ Present (join_into (v n).1 (table d v n (number_of d (v n).0)))
 unfolding table
-at_visit d v n = rw (same_test (number_of d (v n).0)) refl
+at_visit d v n = rw (eq-eqb (number_of d (v n).0) _ refl) refl
 
 pub lies_visit : (d : Follow) (v : ℕ → Context × Ages) (n : ℕ) → LiesAt (v n).1 (table d v (suc n) (number_of d (v n).0))
 lies_visit d v n = rw (at_visit d v n) (lies_join (v n).1 _)

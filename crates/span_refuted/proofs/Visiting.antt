@@ -1,7 +1,6 @@
 -- The visits of a machine without choice: each is in range, at the address that the machine comes to, and has one next.
-use Rattle.std.proofs.Common.{◌≡◌, ℕ, zero, suc, ◌+◌, ◌<◌, Bool, true, false, ◌&&◌, nat_le, nat_lt, cond, Some, None, refl, subst, ◌∙◌, ap, arith}
-use Rattle.std.proofs.lemmas.Bool.{and_parts}
-use Rattle.std.proofs.lemmas.Bool.Decides.{nat_tests}
+use Rattle.std.proofs.Common.{◌≡◌, ℕ, zero, suc, ◌+◌, Bool, true, false, nat_le, nat_lt, cond, Some, None, refl, subst, ◌∙◌, ap}
+use Rattle.std.proofs.lemmas.Bool.{and_parts, and_from, lt-ltb}
 use Rattle.pin_matrix.specs.Followed.{followed}
 use Rattle.pin_matrix.specs.declared.machine.MachineSetup.{MachineSetup}
 use Rattle.pin_matrix.specs.declared.setup.Setup.{Setup}
@@ -34,14 +33,8 @@ known_small most n = on (nat_le n most) refl where
   on true e = e
   on false e = refl
 
-all_true : (a b c : Bool) → a ≡ true → b ≡ true → c ≡ true → (a && (b && c)) ≡ true
-all_true a b c h k l = rw (h, k, l) refl
-
-below_test : (n : ℕ) → n < 32 → nat_lt n 32 ≡ true
-below_test n h = grind (arith, nat_tests)
-
 started_placed : (s : MachineSetup) (u : Setup) (sp : Span) → is_placed (followed sp) (started (Some s) u sp).address (started (Some s) u sp).x (started (Some s) u sp).y ≡ true
-started_placed s u sp = all_true _ _ _ (below_test s.start s.start_in_memory) (known_small (followed sp).x s.x) (known_small (followed sp).y s.y)
+started_placed s u sp = and_from _ _ (lt-ltb s.start 32 s.start_in_memory) (and_from _ _ (known_small (followed sp).x s.x) (known_small (followed sp).y s.y))
 
 -- what is so of each visit
 pub record IsVisit (u : Setup) (sp : Span) (s : MachineSetup) (i : ℕ) : Type 0 where
