@@ -1,7 +1,7 @@
 -- What is told in a run: of no clock before it is over, and the pins of each sample.
-use Rattle.std.proofs.Common.{◌≡◌, ℕ, zero, suc, ◌+◌, ◌≤◌, Bool, true, false, not, ◌&&◌, ◌||◌, cond, eqb, List, [], ◌∷◌, ◌++◌, length, refl, sym, ap₂, ◌∙◌, map, arith, length-append}
+use Rattle.std.proofs.Common.{◌≡◌, ℕ, zero, suc, ◌+◌, ◌≤◌, Bool, true, false, cond, eqb, List, [], ◌∷◌, ◌++◌, length, refl, sym, ap₂, ◌∙◌, map, arith, length-append}
+use Rattle.std.proofs.lemmas.Bool.{and_parts, eqb-true, not-false, or_parts}
 use Rattle.std.proofs.lemmas.List.{map-append}
-use Rattle.std.proofs.lemmas.Bool.Decides.{nat_tests}
 use Rattle.dreq_pacing.specs.declared.line.Line.{Line}
 use Rattle.dreq_pacing.specs.declared.due.Due.{Due}
 use Rattle.block_core.specs.declared.conduct.Conduct.{Conduct}
@@ -28,7 +28,7 @@ clock_after start lines n last le =
     let at = clock-hosted_at start lines n in
     clock_by (is_noted d r) (conduct_in d r) last (start.clock + n) (omega (arith, at)) le
 
-clock_at : (start : Run) (lines : List Line) (n : ℕ) → (conduct_at start lines n).clock ≤ start.clock + n
+pub clock_at : (start : Run) (lines : List Line) (n : ℕ) → (conduct_at start lines n).clock ≤ start.clock + n
 unfolding conduct_before no_conduct
 clock_at start lines zero = clock_after start lines 0 (no_conduct start) (omega arith)
 clock_at start lines (suc n) = let l = clock_at start lines n in clock_after start lines (suc n) (conduct_at start lines n) (omega arith)
@@ -51,25 +51,14 @@ timely_conducts start lines (suc n) fresh =
     timely_more 0 (conducts start lines n) (conduct_at start lines n) (timely_conducts start lines n fresh) (omega arith)
 
 -- the pins that are told are those after the clock
-same_if : (a b : ℕ) → eqb a b ≡ true → a ≡ b
-same_if a b h = grind (arith, nat_tests)
-
-and_parts : (a b : Bool) → not (a && b) ≡ false → (a ≡ true) × (b ≡ true)
-and_parts true true h = (refl, refl)
-and_parts true false h = cc
-and_parts false b h = cc
-
-or_right : (a b c : Bool) → (a || b) ≡ c → c ≡ false → b ≡ false
-or_right true b c h e = let z : true ≡ false = h ∙ e in cc
-or_right false b c h e = h ∙ e
-
-kept_pins : (d : Due) (r : Run) → is_noted d r ≡ false → pins_in r.state ≡ pins_in (next d r).state
+pub kept_pins : (d : Due) (r : Run) → is_noted d r ≡ false → pins_in r.state ≡ pins_in (next d r).state
 unfolding is_noted
 kept_pins d r calm =
     let after = (next d r).state in
-    let parts = and_parts (eqb r.state.levels after.levels) (eqb r.state.directions after.directions) (or_right _ (has_new_pins r.state after) _ refl calm) in
+    let halves = or_parts _ (has_new_pins r.state after) calm in
+    let parts = and_parts (eqb r.state.levels after.levels) (eqb r.state.directions after.directions) (not-false _ halves.1) in
     let mk : ℕ → ℕ → ShownPins = λ x y. record { level = x; direction = y } in
-    ap₂ mk (same_if r.state.levels after.levels parts.0) (same_if r.state.directions after.directions parts.1)
+    ap₂ mk (eqb-true r.state.levels after.levels parts.0) (eqb-true r.state.directions after.directions parts.1)
 
 pins_after : (d : Due) (r : Run) (last : Conduct) → pins_told last ≡ pins_in r.state → pins_told (conduct_after d r last) ≡ pins_in (next d r).state
 unfolding conduct_in
@@ -78,7 +67,7 @@ pins_after d r last before = on (is_noted d r) refl where
   on true e = refl
   on false e = before ∙ kept_pins d r e
 
-pins_before : (start : Run) (lines : List Line) (n : ℕ) → pins_told (conduct_before start lines n) ≡ pins_in (hosted_at start lines n).run.state
+pub pins_before : (start : Run) (lines : List Line) (n : ℕ) → pins_told (conduct_before start lines n) ≡ pins_in (hosted_at start lines n).run.state
 unfolding conduct_before no_conduct hosted_at hosted_next
 pins_before start lines zero = refl
 pins_before start lines (suc n) = pins_after (host_of start lines n) (hosted_at start lines n).run (conduct_before start lines n) (pins_before start lines n)

@@ -1,6 +1,6 @@
 -- A span that speaks of every pair measures the same by what the machines did as by the samples.
-use Rattle.std.proofs.Common.{◌≡◌, ℕ, suc, Bool, true, false, not, ◌&&◌, ◌||◌, cond, eqb, ◌==◌, Option, Some, None, List, [], ◌∷◌, length, refl, sym, ap, ◌∙◌, map, arith}
-use Rattle.std.proofs.lemmas.Bool.Decides.{nat_tests}
+use Rattle.std.proofs.Common.{◌≡◌, ℕ, suc, Bool, true, false, not, ◌&&◌, ◌||◌, cond, ◌==◌, Option, Some, None, List, [], ◌∷◌, length, refl, sym, ap, ◌∙◌, map, arith}
+use Rattle.std.proofs.lemmas.Bool.{eqb-true, or_parts, and_right, not-false}
 use Rattle.std.specs.Option.{option_map}
 use Rattle.pin_matrix.specs.Pins.{is_high}
 use Rattle.pin_matrix.specs.declared.span.PinSignal.{PinSignal}
@@ -32,38 +32,23 @@ record IsPlain (sp : Span) : Type 0 where
   assumes : sp.assume ≡ []
   cut : (events_in sp).cut ≡ false
 
-or_false : (a b : Bool) → (a || b) ≡ false → (a ≡ false) × (b ≡ false)
-or_false true b h = cc
-or_false false b h = (refl, h)
-
-not_not : (b : Bool) → not b ≡ false → b ≡ true
-not_not true h = refl
-not_not false h = cc
-
-is_zero : (n : ℕ) → eqb n 0 ≡ true → n ≡ 0
-is_zero n h = grind (arith, nat_tests)
-
 none_named : {A : Type 0} (xs : List A) → (length xs == 0) ≡ true → xs ≡ []
 none_named [] h = refl
-none_named (x ∷ xs) h = let z = is_zero (length (x ∷ xs)) h in absurd (omega arith)
-
-and_false : (a b : Bool) → b ≡ false → (a && b) ≡ false
-and_false true b h = h
-and_false false b h = refl
+none_named (x ∷ xs) h = let z = eqb-true (length (x ∷ xs)) 0 h in absurd (omega arith)
 
 is_plain : (sp : Span) → is_selective sp ≡ false → IsPlain sp
 is_plain sp h =
-    let both = or_false ((sp.prompt || not (is_none sp.without)) || (not (is_none sp.from_at) || not (is_none sp.to_at))) (assumes sp) h in
-    let halves = or_false (sp.prompt || not (is_none sp.without)) (not (is_none sp.from_at) || not (is_none sp.to_at)) both.0 in
-    let speaks = or_false sp.prompt (not (is_none sp.without)) halves.0 in
-    let ends = or_false (not (is_none sp.from_at)) (not (is_none sp.to_at)) halves.1 in
+    let both = or_parts ((sp.prompt || not (is_none sp.without)) || (not (is_none sp.from_at) || not (is_none sp.to_at))) (assumes sp) h in
+    let halves = or_parts (sp.prompt || not (is_none sp.without)) (not (is_none sp.from_at) || not (is_none sp.to_at)) both.0 in
+    let speaks = or_parts sp.prompt (not (is_none sp.without)) halves.0 in
+    let ends = or_parts (not (is_none sp.from_at)) (not (is_none sp.to_at)) halves.1 in
     record {
       prompt = speaks.0;
-      without = none_named sp.without (not_not _ speaks.1);
-      from = none_named sp.from_at (not_not _ ends.0);
-      to = none_named sp.to_at (not_not _ ends.1);
-      assumes = none_named sp.assume (not_not _ both.1);
-      cut = and_false (is_cut sp.unit) (is_selective sp) h;
+      without = none_named sp.without (not-false _ speaks.1);
+      from = none_named sp.from_at (not-false _ ends.0);
+      to = none_named sp.to_at (not-false _ ends.1);
+      assumes = none_named sp.assume (not-false _ both.1);
+      cut = and_right (is_cut sp.unit) (is_selective sp) h;
     }
 
 -- nothing drops the from-events before

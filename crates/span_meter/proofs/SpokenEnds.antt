@@ -1,7 +1,6 @@
 -- One clock more of a span that assumes something: whether it is before X and Y are no longer as assumed.
-use Rattle.std.proofs.Common.{◌≡◌, ℕ, suc, ◌+◌, ◌^◌, ◌<◌, ◌≤◌, Bool, true, false, ◌&&◌, ◌||◌, cond, nat_lt, max, List, [], ◌∷◌, ◌++◌, Option, Some, None, length, take, refl, sym, ap, ◌∙◌, subst, arith}
-use Rattle.std.proofs.lemmas.Bool.{and_parts}
-use Rattle.std.proofs.lemmas.Bool.Decides.{nat_tests}
+use Rattle.std.proofs.Common.{◌≡◌, ℕ, suc, ◌+◌, ◌^◌, ◌<◌, Bool, true, false, ◌&&◌, ◌||◌, cond, nat_lt, max, List, [], ◌∷◌, ◌++◌, Option, Some, None, length, take, refl, sym, ap, ◌∙◌, subst, arith}
+use Rattle.std.proofs.lemmas.Bool.{and_parts, ltb-true, ltb-false, lt-ltb}
 use Rattle.std.proofs.lemmas.List.{take-append-le, take_all}
 use Rattle.pin_matrix.specs.declared.assume.Assumption.{Assumption}
 use Rattle.block_core.specs.declared.conduct.Conduct.{Conduct}
@@ -35,18 +34,9 @@ pub record IsEnd (clock : ℕ) (a : Assumed) : Type 0 where
   pub rests : a.rests ≡ Some end
   pub before : end < clock
 
-before_it : (r clock : ℕ) → nat_lt r clock ≡ true → r < clock
-before_it r clock h = grind (arith, nat_tests)
-
-not_before_it : (r clock : ℕ) → nat_lt r clock ≡ false → clock ≤ r
-not_before_it r clock h = grind (arith, nat_tests)
-
-is_before : (r clock : ℕ) → r < clock → nat_lt r clock ≡ true
-is_before r clock h = grind (arith, nat_tests)
-
 ends_at : (clock : ℕ) (o : Option ℕ) → ends_before clock o ≡ true → (r : ℕ) × (o ≡ Some r) × (r < clock)
 ends_at clock None h = cc
-ends_at clock (Some r) h = (r, refl, before_it r clock h)
+ends_at clock (Some r) h = (r, refl, ltb-true r clock h)
 
 pub is_end : (clock : ℕ) (a : Assumed) → is_over_before clock a ≡ true → IsEnd clock a
 is_end clock a h =
@@ -56,7 +46,7 @@ is_end clock a h =
 
 pub is_over : (clock r : ℕ) (a : Assumed) → a.missed ≡ true → a.rests ≡ Some r → r < clock → is_over_before clock a ≡ true
 is_over clock r a missed rests low =
-    ap (λ (b : Bool). b && ends_before clock a.rests) missed ∙ ap (ends_before clock) rests ∙ is_before r clock low
+    ap (λ (b : Bool). b && ends_before clock a.rests) missed ∙ ap (ends_before clock) rests ∙ lt-ltb r clock low
 
 -- and no clock changes that
 pub over_later : (clock : ℕ) (a : Assumed) → is_over_before clock a ≡ true → is_over_before (suc clock) a ≡ true
@@ -72,7 +62,7 @@ over_stays assume clock (Some m) a h =
 
 -- an end that wasn't there before this clock is this clock
 last_before : (r clock : ℕ) (missed : Bool) → missed ≡ true → (missed && nat_lt r clock) ≡ false → r < suc clock → r ≡ clock
-last_before r clock true m h low = let more = not_before_it r clock h in omega arith
+last_before r clock true m h low = let more = ltb-false r clock h in omega arith
 last_before r clock false m h low = cc
 
 max_end : (clock : ℕ) (o : Option ℕ) (r : ℕ) → not_before clock o ≡ Some r → r < suc clock → not_before clock o ≡ Some clock
