@@ -1,6 +1,6 @@
 -- The end of a machine's delay, as it is told ahead, in a clock in which no line acts on it.
 use Rattle.std.proofs.Common.{◌≡◌, ℕ, suc, ◌-◌, ◌<◌, ◌==◌, Bool, true, false, ◌&&◌, cond, Option, Some, None, refl, sym, ap, ◌∙◌, arith, slice_index_or}
-use Rattle.std.proofs.lemmas.Bool.{or_parts}
+use Rattle.std.proofs.lemmas.Bool.{or_parts, eqb-true}
 use Rattle.std.proofs.lemmas.Bool.Decides.{nat_tests}
 use Rattle.clock_divider.specs.Ticks.{is_tick}
 use Rattle.clock_divider.specs.Timing.{Timing, resumed, stepped}
@@ -50,16 +50,13 @@ after_tick ticks delay = cond ticks (delay - 1) delay
 abbrev told_by : (clock : ℕ) → (enabled : Bool) → Timing → (delay : ℕ) → Option ℕ
 told_by clock enabled t delay = cond (delay == 0) (Some clock) (rest_by enabled t delay)
 
-is_none : (n : ℕ) → (n == 0) ≡ true → n ≡ 0
-is_none n h = grind (arith, nat_tests)
-
 is_some_left : (n : ℕ) → (n == 0) ≡ false → 0 < n
 is_some_left n h = grind (arith, nat_tests)
 
 -- the tick of this clock was the last one of the delay, or the next one comes later
 one_tick : (t : Timing) (left clock : ℕ) (over : Bool) → t.clock ≡ clock → is_tick t.restarted t.period t.clock ≡ true → (left == 0) ≡ over
     → cond over (Some clock) (Some (clock_of_tick (stepped t) (left - 1))) ≡ Some (clock_of_tick t left)
-one_tick t left clock true at is over = ap Some (sym at ∙ sym (tick_now t is) ∙ ap (clock_of_tick t) (sym (is_none left over)))
+one_tick t left clock true at is over = ap Some (sym at ∙ sym (tick_now t is) ∙ ap (clock_of_tick t) (sym (eqb-true left 0 over)))
 one_tick t left clock false at is over =
     let some = is_some_left left over in
     ap Some (tick_over t (left - 1) is ∙ ap (clock_of_tick t) (let z : suc (left - 1) ≡ left = omega arith in z))

@@ -24,10 +24,11 @@ use Rattle.span_meter.specs.Measured.{ends_in, greatest_of, least_with, measured
 use Rattle.span_meter.specs.Spoken as spoken
 use Rattle.span_meter.specs.Spoken.{AreMarksFrom, IsOfPair, IsPair, spoken}
 use Rattle.span_meter.proofs.PlainSpans.{all_spoken, plain_assumes}
+use Rattle.span_meter.proofs.ConductLists.{pins_before}
 use Rattle.span_seen.specs.Ends.{IsAssumedUpTo}
 use Rattle.span_seen.specs.Within.{IsUndisturbed, IsWithin, measured_in}
 use Rattle.span_seen.proofs.Ended.{told_end}
-use Rattle.span_seen.proofs.Runs.{pins_before, run_told, told_mark}
+use Rattle.span_seen.proofs.Runs.{run_told, told_mark}
 use Rattle.span_seen.proofs.Telling.{IsTold}
 
 -- what is told from a clock on
@@ -55,7 +56,7 @@ unfolding marks told_from
 marks_from u sp lines k zero = tt
 marks_from u sp lines k (suc count) =
     let rest = told_from (conduct_at (first_run u) lines) (suc k) count in
-    (refl, subst (λ (pins : ShownPins). AreMarksFrom (told_mark u sp lines) (suc k) (marks (events_in sp) (suc k) pins rest)) (sym (pins_before u lines (suc k))) (marks_from u sp lines (suc k) count))
+    (refl, subst (λ (pins : ShownPins). AreMarksFrom (told_mark u sp lines) (suc k) (marks (events_in sp) (suc k) pins rest)) (sym (pins_before (first_run u) lines (suc k))) (marks_from u sp lines (suc k) count))
 
 length-marks : (e : SpanEvents) (told : ℕ → Conduct) (clock k count : ℕ) (pins : ShownPins) → length (marks e clock pins (told_from told k count)) ≡ count
 unfolding marks told_from

@@ -1,6 +1,7 @@
 -- What is known of a span's assumptions after the first clocks of a run is what its marks say: whether there is an end, and where.
 use Rattle.std.proofs.Common.{◌≡◌, ℕ, zero, suc, ◌<◌, ◌≤◌, ◌⊎◌, inl, inr, ◌≢◌, Bool, true, false, ◌&&◌, ◌||◌, cond, max, Option, Some, None, refl, sym, ap, subst, ◌∙◌, arith}
-use Rattle.std.proofs.lemmas.Bool.{cases_eq, or_parts}
+use Rattle.std.proofs.Math.Bool.{or-false}
+use Rattle.std.proofs.lemmas.Bool.{cases_eq, or_parts, false_from_ne_true}
 use Rattle.pin_matrix.specs.declared.span.Span.{Span}
 use Rattle.block_core.specs.declared.conduct.MachineConduct.{MachineConduct}
 use Rattle.block_core.specs.Conduct.{rests_in}
@@ -49,12 +50,8 @@ told_end (suc n) b s o is at h =
     let low = end.before in
     absurd (omega arith)
 
-by_over : (b : Bool) → (b ≡ true → ⊥) → b ≡ false
-by_over true h = absurd (h refl)
-by_over false h = refl
-
 pub open_told : (m : ℕ → Mark) (n : ℕ) (s : Slot) (a : Assumed) → s.timing.clock ≡ n → IsOpen m n s a → is_over_before n a ≡ false
-open_told m n s a at h = by_over (is_over_before n a) (λ over.
+open_told m n s a at h = false_from_ne_true (is_over_before n a) (λ over.
     let end = ends.is_end n a over in
     told_end n a.missed s a.rests (h.missed end.missed).2 at over)
 
@@ -81,14 +78,10 @@ no_sooner n s at = on (is_at_rest s) refl where
       let left = rests-left n s e in
       ap (not_before n) left ∙ max_of (left_in s) refl ∙ sym left
 
-or_false : (b : Bool) → (b || false) ≡ b
-or_false true = refl
-or_false false = refl
-
 is_after : (sp : Span) (m : ℕ → Mark) (n : ℕ) (s after : Slot) (a : Assumed) (did : Option MachineConduct) → s.timing.clock ≡ n → after.timing.clock ≡ suc n → IsOpen m n s a → Tells sp n (m n) s after did
     → IsAfter m n after a (assumed_where sp.assume n did a)
 is_after sp m n s after a None at then going told = record {
-  missed = sym (or_false a.missed) ∙ ap (λ (b : Bool). a.missed || b) (sym told.0);
+  missed = sym (or-false a.missed) ∙ ap (λ (b : Bool). a.missed || b) (sym told.0);
   rests = λ missed. let delay = going.missed missed in delay.2 ∙ sym (told.1 delay.1);
 }
 is_after sp m n s after a (Some c) at then going told =

@@ -1,6 +1,6 @@
 -- A run with what is told of it: the span's machine at its place, and the mark of each clock.
 use Rattle.std.proofs.Common.{◌≡◌, ℕ, zero, suc, ◌+◌, ◌≤◌, ◌<◌, Bool, true, false, cond, eqb, Option, Some, None, option_map, List, [], ◌∷◌, slice_index_or, unwrap_or, refl, sym, ap, subst, ◌∙◌, arith}
-use Rattle.std.proofs.lemmas.Bool.{and_parts}
+use Rattle.std.proofs.lemmas.Bool.{and_parts, eqb-true}
 use Rattle.std.proofs.lemmas.Bool.Decides.{nat_tests}
 use Rattle.pin_matrix.specs.Setups.{ids_are_places}
 use Rattle.pin_matrix.specs.declared.machine.MachineSetup.{MachineSetup}
@@ -9,10 +9,9 @@ use Rattle.pin_matrix.specs.declared.span.Span.{Span}
 use Rattle.clock_divider.specs.Timing.{Timing, resumed}
 use Rattle.dreq_pacing.specs.declared.due.Due.{Due}
 use Rattle.dreq_pacing.specs.declared.line.Line.{Line}
-use Rattle.block_core.specs.declared.conduct.Conduct.{Conduct}
 use Rattle.block_core.specs.declared.conduct.MachineConduct.{MachineConduct}
 use Rattle.block_core.specs.Block.{Run, first_run, next, seen_in, view_of}
-use Rattle.block_core.specs.Conduct.{conduct_after, conduct_at, conduct_before, conduct_in, is_noted, no_conduct}
+use Rattle.block_core.specs.Conduct.{conduct_at, conduct_before, no_conduct}
 use Rattle.block_core.specs.Following.{place_at}
 use Rattle.block_core.specs.Hosted.{host_of, hosted_at, hosted_next}
 use Rattle.block_core.specs.Slots.{first_slot, place_after, settled_slot, slot_after}
@@ -21,10 +20,11 @@ use Rattle.block_core.proofs.Runs.{clock-hosted_at, memory-run_from, run-hosted_
 use Rattle.span_check.specs.Marks.{excused_at, mark_of}
 use Rattle.span_check.specs.Runs.{marks_in, state_beside}
 use Rattle.span_meter.specs.Events as events
-use Rattle.span_meter.specs.Events.{conduct_of, events_in, pins_told}
+use Rattle.span_meter.specs.Events.{conduct_of, events_in}
 use Rattle.span_meter.specs.Measured.{pins_in}
 use Rattle.span_meter.specs.Spoken as spoken
-use Rattle.span_seen.proofs.Telling.{IsOwn, IsTold, clock_told, kept_pins, place_next, same_if}
+use Rattle.span_meter.proofs.ConductLists.{clock_at, pins_before}
+use Rattle.span_seen.proofs.Telling.{IsOwn, IsTold, clock_told, place_next}
 
 -- machines are at the places of their numbers
 place_id : (place i : ℕ) (machines : List (Option MachineSetup)) (s : MachineSetup) → ids_are_places place machines ≡ true → slice_index_or machines i None ≡ Some s → s.id ≡ place + i
@@ -32,7 +32,7 @@ place_id place i [] s h e = cc
 place_id place zero (None ∷ machines) s h e = cc
 place_id place zero (Some m ∷ machines) s h e =
     let same : m ≡ s = ap (λ (o : Option MachineSetup). unwrap_or o m) e in
-    let id : m.id ≡ place = same_if m.id place (and_parts (eqb m.id place) (ids_are_places (place + 1) machines) h).0 in
+    let id : m.id ≡ place = eqb-true m.id place (and_parts (eqb m.id place) (ids_are_places (place + 1) machines) h).0 in
     ap (λ (x : MachineSetup). x.id) (sym same) ∙ id ∙ (let z : place ≡ place + 0 = omega arith in z)
 place_id place (suc i) (None ∷ machines) s h e = place_id (place + 1) i machines s h e ∙ (let z : place + 1 + i ≡ place + suc i = omega arith in z)
 place_id place (suc i) (Some m ∷ machines) s h e =
@@ -80,38 +80,6 @@ memory_on u lines c = ap (λ (r : Run). r.memory) (run-hosted_at (first_run u) l
 pub clock_on : (u : Setup) (lines : List Line) (c : ℕ) → (run_on u lines c).clock ≡ c
 clock_on u lines c = clock-hosted_at (first_run u) lines c ∙ (let z : 0 + c ≡ c = omega arith in z)
 
--- the pins that are told before a clock are those at its start
-pins_after : (d : Due) (r : Run) (last : Conduct) → pins_told last ≡ pins_in r.state → pins_told (conduct_after d r last) ≡ pins_in (next d r).state
-unfolding conduct_in
-pins_after d r last before = on (is_noted d r) refl where
-  on : (b : Bool) → is_noted d r ≡ b → pins_told (cond b (conduct_in d r) last) ≡ pins_in (next d r).state
-  on true e = refl
-  on false e = before ∙ kept_pins d r e
-
-pub pins_before : (u : Setup) (lines : List Line) (c : ℕ) → pins_told (conduct_before (first_run u) lines c) ≡ pins_in (state_beside u lines c)
-unfolding conduct_before no_conduct hosted_at
-pins_before u lines zero = refl
-pins_before u lines (suc c) =
-    pins_after (host_of (first_run u) lines c) (run_on u lines c) (conduct_before (first_run u) lines c) (pins_before u lines c) ∙ ap (λ (r : Run). pins_in r.state) (sym (next_run u lines c))
-
--- and nothing is told of the clock itself
-past_by : (b : Bool) (now last : Conduct) (most : ℕ) → now.clock ≤ most → last.clock ≤ most → (cond b now last).clock ≤ most
-past_by true now last most h k = h
-past_by false now last most h k = k
-
-past_after : (u : Setup) (lines : List Line) (c : ℕ) (last : Conduct) → last.clock ≤ c → (conduct_after (host_of (first_run u) lines c) (run_on u lines c) last).clock ≤ c
-unfolding conduct_in
-past_after u lines c last le =
-    let d = host_of (first_run u) lines c in
-    let r = run_on u lines c in
-    let at = clock_on u lines c in
-    past_by (is_noted d r) (conduct_in d r) last c (omega (arith, at)) le
-
-past : (u : Setup) (lines : List Line) (c : ℕ) → (conduct_at (first_run u) lines c).clock ≤ c
-unfolding conduct_before no_conduct
-past u lines zero = past_after u lines 0 (no_conduct (first_run u)) (omega arith)
-past u lines (suc c) = let l = past u lines c in past_after u lines (suc c) (conduct_at (first_run u) lines c) (omega arith)
-
 abbrev nobody : List (Option MachineConduct)
 nobody = None ∷ None ∷ None ∷ None ∷ []
 
@@ -134,7 +102,7 @@ unfolding conduct_before no_conduct
 untold u lines id zero = none_by (eqb (first_run u).clock 0) (slice_index_or nobody id None) (four_none id)
 untold u lines id (suc c) =
     let t = conduct_at (first_run u) lines c in
-    let l = past u lines c in
+    let l : t.clock ≤ 0 + c = clock_at (first_run u) lines c in
     ap (λ (b : Bool). cond b (slice_index_or t.machines id None) None) (not_now t.clock (suc c) (omega arith))
 
 -- so each mark that is told is that of the span
@@ -148,5 +116,5 @@ run_told u sp lines s configured c =
     let d = host_of (first_run u) lines c in
     let r = run_on u lines c in
     let t = told_mark u sp lines c in
-    let told = clock_told sp d r (conduct_before (first_run u) lines c) c (clock_on u lines c) (own_on u sp lines s configured c) (untold u lines sp.machine c) (pins_before u lines c) in
+    let told = clock_told sp d r (conduct_before (first_run u) lines c) c (clock_on u lines c) (own_on u sp lines s configured c) (untold u lines sp.machine c) (pins_before (first_run u) lines c) in
     subst (λ (memory : List ℕ). IsTold (events_in sp).cut (mark_of sp memory (seen_in d r) d r.state (next d r).state) (excused_at sp (place_at (next d r).state sp.machine)) t) (memory_on u lines c) told

@@ -1,7 +1,7 @@
 -- A machine that stands so that its span doesn't speak of the from-events before stands so after a clock in which it neither begins
 -- nor finishes an instruction.
 use Rattle.std.proofs.Common.{◌≡◌, ◌<◌, ◌==◌, inl, inr, Bool, true, false, not, ◌&&◌, ◌||◌, cond, Some, [], is_some, refl, sym, ap, ◌∙◌, arith}
-use Rattle.std.proofs.lemmas.Bool.{cases_lt}
+use Rattle.std.proofs.lemmas.Bool.{cases_lt, or_left, not-false, cases_Bool}
 use Rattle.std.proofs.lemmas.Bool.Decides.{nat_tests}
 use Rattle.pin_matrix.specs.declared.machine.MachineSetup.{MachineSetup}
 use Rattle.pin_matrix.specs.declared.span.Span.{Span}
@@ -31,15 +31,11 @@ by_waiting : (a b c : Bool) → b ≡ false → (a || (b && c)) ≡ true → a �
 by_waiting true b c none h = refl
 by_waiting false b c none h = let z : (b && c) ≡ false = ap (λ x. x && c) none in let e : true ≡ false = sym h ∙ z in cc
 
-or_first : (a b : Bool) → a ≡ true → (a || b) ≡ true
-or_first true b h = refl
-or_first false b h = cc
-
 waits_on : (sp : Span) (r x : Registers) → x.pc ≡ r.pc → x.begun ≡ r.begun → stands_before (flow_of r) ≡ false → is_excused_in sp (flow_of r) ≡ true → is_excused_in sp (flow_of x) ≡ true
 waits_on sp r x pc begun none h =
     let waits = by_waiting (r.begun && is_excusing sp r.pc) (stands_before (flow_of r)) (is_left_out sp r.pc) none h in
     let same : (x.begun && is_excusing sp x.pc) ≡ (r.begun && is_excusing sp r.pc) = rw (pc, begun) refl in
-    or_first (x.begun && is_excusing sp x.pc) (stands_before (flow_of x) && is_left_out sp x.pc) (same ∙ waits)
+    or_left (x.begun && is_excusing sp x.pc) (stands_before (flow_of x) && is_left_out sp x.pc) (same ∙ waits)
 
 -- it doesn't come to one in a delay, nor while it waits
 in_a_delay : (r : Registers) → 0 < r.delay → stands_before (flow_of r) ≡ false
@@ -95,14 +91,10 @@ word_kind : (s : MachineSetup) (v : View) (q : Queues) (r : Registers) → r.del
 unfolding tick_by
 word_kind s v q r left = ap (λ x. x.1.kind) (at_rest s v q r left)
 
-not_not : (b : Bool) → not b ≡ false → b ≡ true
-not_not true h = refl
-not_not false h = cc
-
 stalls : (s : MachineSetup) (v : View) (q : Queues) (r : Registers) → r.delay ≡ 0 → r.begun ≡ true → finishes (tick_of s v q r).1.kind (tick_of s v q r).1.stalled ≡ false → IsCalm r (tick_of s v q r).0 (tick_of s v q r).1
 stalls s v q r left begun ends =
     let kind : (tick_of s v q r).1.kind ≡ Late = word_kind s v q r left ∙ ap (λ (b : Bool). cond {A = Kind} b Late First) begun in
-    let stalled : (tick_of s v q r).1.stalled ≡ true = not_not _ (ap (λ (k : Kind). finishes k (tick_of s v q r).1.stalled) (sym kind) ∙ ends) in
+    let stalled : (tick_of s v q r).1.stalled ≡ true = not-false _ (ap (λ (k : Kind). finishes k (tick_of s v q r).1.stalled) (sym kind) ∙ ends) in
     let same = (still_effect (current_act v r) s v q r begun).same (sym (stalled_is s v q r left) ∙ stalled) in
     record {
       pc = (stuck s v q r left stalled).pc ∙ ap (λ (e : Effect). e.registers.pc) same;
@@ -115,17 +107,13 @@ starts s v q r left begun calm =
     let kind : (tick_of s v q r).1.kind ≡ First = word_kind s v q r left ∙ ap (λ (b : Bool). cond {A = Kind} b Late First) begun in
     let z : true ≡ false = ap begins (sym kind) ∙ calm in cc
 
-by_begun : (b : Bool) (P : Type 0) → (b ≡ true → P) → (b ≡ false → P) → P
-by_begun true P h k = h refl
-by_begun false P h k = k refl
-
 calm_tick : (s : MachineSetup) (v : View) (q : Queues) (r : Registers) → begins (tick_of s v q r).1.kind ≡ false → finishes (tick_of s v q r).1.kind (tick_of s v q r).1.stalled ≡ false → IsCalm r (tick_of s v q r).0 (tick_of s v q r).1
 calm_tick s v q r calm ends =
     elim (cases_lt 0 r.delay) [
       | inl more ↦ delays s v q r more
       | inr none ↦
           let left : r.delay ≡ 0 = omega arith in
-          by_begun r.begun (IsCalm r (tick_of s v q r).0 (tick_of s v q r).1) (λ begun. stalls s v q r left begun ends) (λ begun. starts s v q r left begun calm)
+          elim (cases_Bool r.begun) [ inl begun ↦ stalls s v q r left begun ends | inr begun ↦ starts s v q r left begun calm ]
     ]
 
 ticking : (sp : Span) (v : View) (d : Due) (s : Slot) → has_tick (lined d s) ≡ true → begins (slot_intent v d s).kind ≡ false → finishes (slot_intent v d s).kind (slot_intent v d s).stalled ≡ false
@@ -142,4 +130,4 @@ ticking sp v d s ticks calm ends h =
 pub stays_excused : (sp : Span) (v : View) (d : Due) (s : Slot) → begins (slot_intent v d s).kind ≡ false → finishes (slot_intent v d s).kind (slot_intent v d s).stalled ≡ false
     → excused_at sp (Some s) ≡ true → excused_at sp (Some (slot_after v d s)) ≡ true
 stays_excused sp v d s calm ends h =
-    by_begun (has_tick (lined d s)) (excused_at sp (Some (slot_after v d s)) ≡ true) (λ ticks. ticking sp v d s ticks calm ends h) (λ none. idle sp v d s none h)
+    elim (cases_Bool (has_tick (lined d s))) [ inl ticks ↦ ticking sp v d s ticks calm ends h | inr none ↦ idle sp v d s none h ]

@@ -1,7 +1,7 @@
 -- What is told of a clock is what a span looks at in it: its events, and whether it speaks of the from-events before.
-use Rattle.std.proofs.Common.{◌≡◌, ℕ, zero, suc, ◌==◌, ◌⊎◌, inl, inr, Bool, true, false, not, ◌&&◌, ◌||◌, cond, eqb, Option, Some, None, option_map, is_some, List, [], ◌∷◌, length, map, slice_index_or, refl, sym, ap, ap₂, ◌∙◌, arith}
-use Rattle.std.proofs.lemmas.Bool.{or_parts}
-use Rattle.std.proofs.lemmas.Bool.Decides.{nat_tests}
+use Rattle.std.proofs.Common.{◌≡◌, ℕ, zero, suc, ◌==◌, ◌⊎◌, inl, inr, Bool, true, false, not, ◌&&◌, ◌||◌, cond, Option, Some, None, option_map, is_some, List, [], ◌∷◌, length, map, slice_index_or, refl, sym, ap, ap₂, ◌∙◌}
+use Rattle.std.proofs.Math.Bool.{and_comm}
+use Rattle.std.proofs.lemmas.Bool.{or_parts, eq-eqb}
 use Rattle.std.proofs.Math.ListN.{get_or-map}
 use Rattle.std.specs.List.{list_any}
 use Rattle.pin_matrix.specs.declared.span.PinSignal.{PinSignal}
@@ -24,10 +24,11 @@ use Rattle.span_ticks.specs.UnderWay.{flow_of, stands_before}
 use Rattle.span_check.specs.Marks.{Mark, excused_at, has_signal_edge, is_broken, mark_of}
 use Rattle.span_meter.specs.declared.pins.ShownPins.{ShownPins}
 use Rattle.span_meter.specs.Events as events
-use Rattle.span_meter.specs.Events.{SpanEvent, comes, conduct_of, events_in, is_dropped, pins_told}
+use Rattle.span_meter.specs.Events.{comes, conduct_of, events_in, is_dropped, pins_told}
 use Rattle.span_meter.specs.Measured.{pins_in}
 use Rattle.span_meter.specs.Spoken as spoken
 use Rattle.span_meter.proofs.Telling.{no_edge}
+use Rattle.span_meter.proofs.ConductLists.{kept_pins}
 use Rattle.span_seen.proofs.Staying.{stays_excused}
 
 -- What a mark of what is told says of the span's own mark of the clock. The events are the same. If it drops no from-event, the clock
@@ -53,16 +54,10 @@ works_same First pending = refl
 works_same Late pending = refl
 works_same Delay pending = refl
 
-and_swap : (a b : Bool) → (a && b) ≡ (b && a)
-and_swap true true = refl
-and_swap true false = refl
-and_swap false true = refl
-and_swap false false = refl
-
 pub ends_same : (kind : Kind) (pending : Option ℕ) (stalled : Bool) → (idling.finishes kind stalled && not (is_some pending)) ≡ finishes (works kind pending) stalled
 ends_same Off pending stalled = refl
-ends_same First pending stalled = and_swap (not stalled) (not (is_some pending))
-ends_same Late pending stalled = and_swap (not stalled) (not (is_some pending))
+ends_same First pending stalled = and_comm (not stalled) (not (is_some pending))
+ends_same Late pending stalled = and_comm (not stalled) (not (is_some pending))
 ends_same Delay pending stalled = refl
 
 -- an event of a clock of note
@@ -96,23 +91,6 @@ pub record IsQuiet (v : View) (d : Due) (s : Slot) (b a : BlockState) : Type 0 w
   pub begins : begins (slot_intent v d s).kind ≡ false
   pub ends : idling.finishes (slot_intent v d s).kind (slot_intent v d s).stalled ≡ false
 
-pub same_if : (a b : ℕ) → eqb a b ≡ true → a ≡ b
-same_if a b h = grind (arith, nat_tests)
-
-not_and : (a b : Bool) → not (a && b) ≡ false → (a ≡ true) × (b ≡ true)
-not_and true true h = (refl, refl)
-not_and true false h = cc
-not_and false b h = cc
-
-pub kept_pins : (d : Due) (r : Run) → is_noted d r ≡ false → pins_in r.state ≡ pins_in (next d r).state
-unfolding is_noted
-kept_pins d r calm =
-    let after = (next d r).state in
-    let halves = or_parts (list_any (is_machine_noted (view_of r.memory (seen_in d r) r.state) d) r.state.machines) (has_new_pins r.state after) calm in
-    let parts = not_and (eqb r.state.levels after.levels) (eqb r.state.directions after.directions) halves.1 in
-    let mk : ℕ → ℕ → ShownPins = λ x y. record { level = x; direction = y } in
-    ap₂ mk (same_if r.state.levels after.levels parts.0) (same_if r.state.directions after.directions parts.1)
-
 no_machine : (v : View) (d : Due) (places : List (Option Slot)) (id : ℕ) (s : Slot) → list_any (is_machine_noted v d) places ≡ false → slice_index_or places id None ≡ Some s → is_machine_noted v d (Some s) ≡ false
 no_machine v d [] id s h e = cc
 no_machine v d (place ∷ places) zero s h e = ap (is_machine_noted v d) (sym e) ∙ (or_parts (is_machine_noted v d place) (list_any (is_machine_noted v d) places) h).0
@@ -137,15 +115,12 @@ place_next d r id = get_or-map (place_after (view_of r.memory (seen_in d r) r.st
 with_own : (sp : Span) (v : View) (d : Due) (r : Run) (s : Slot) → place_at r.state sp.machine ≡ Some s → slice_index_or (map (option_map (machine_conduct r.clock v d)) r.state.machines) sp.machine None ≡ Some (machine_conduct r.clock v d s)
 with_own sp v d r s place = get_or-map (option_map (machine_conduct r.clock v d)) r.state.machines sp.machine None ∙ ap (option_map (machine_conduct r.clock v d)) place
 
-same_number : (n m : ℕ) → n ≡ m → eqb n m ≡ true
-same_number n m e = grind (arith, nat_tests)
-
 pub noted_machine : (sp : Span) (d : Due) (r : Run) (c : ℕ) (s : Slot) → r.clock ≡ c → place_at r.state sp.machine ≡ Some s
     → conduct_of c sp.machine (conduct_in d r) ≡ Some (machine_conduct r.clock (view_of r.memory (seen_in d r) r.state) d s)
 unfolding conduct_in
 noted_machine sp d r c s at place =
     let machines = map (option_map (machine_conduct r.clock (view_of r.memory (seen_in d r) r.state) d)) r.state.machines in
-    ap (λ (b : Bool). cond b (slice_index_or machines sp.machine None) None) (same_number r.clock c at) ∙ with_own sp (view_of r.memory (seen_in d r) r.state) d r s place
+    ap (λ (b : Bool). cond b (slice_index_or machines sp.machine None) None) (eq-eqb r.clock c at) ∙ with_own sp (view_of r.memory (seen_in d r) r.state) d r s place
 
 noted_pins : (d : Due) (r : Run) → pins_told (conduct_in d r) ≡ pins_in (next d r).state
 unfolding conduct_in
