@@ -1,5 +1,6 @@
 -- How old the ages of a step are: one tick older along a passage, and never above one more than the most that is right.
-use Rattle.std.proofs.Common.{◌≡◌, ℕ, ◌+◌, min, Bool, true, false, Option, Some, None, List, [], ◌∷◌, refl, arith}
+use Rattle.std.proofs.Common.{◌≡◌, ℕ, ◌+◌, min, Bool, true, Option, Some, None, List, [], ◌∷◌, refl, arith}
+use Rattle.std.proofs.lemmas.Bool.{false≢true}
 use Rattle.pin_matrix.specs.declared.machine.MachineSetup.{MachineSetup}
 use Rattle.pin_matrix.specs.declared.setup.Setup.{Setup}
 use Rattle.pin_matrix.specs.declared.span.Span.{Span}
@@ -12,10 +13,7 @@ use Rattle.span_step.specs.Narrowing.{nexts_of}
 use Rattle.span_step.specs.Steps.{machine_steps, context_steps, rules_of}
 use Rattle.span_step.specs.Laws.{AreAlike, GoesLike, AreUpTo, ReachesAge, most_of, most_on, AllUpTo, AllReach}
 use Rattle.span_step.proofs.Kept.{Keeps, Together-step_by, nexts_alike}
-use Rattle.span_step.proofs.Alike.{AnyCauses}
-
-abbrev AnyAges : Ages → Ages → Type 0
-AnyAges a b = Unit {0}
+use Rattle.span_step.proofs.Alike.{AnyCauses, AnyAges}
 
 abbrev UpTo : ℕ → Bool → Ages → Ages → Type 0
 UpTo n p a b = AreUpTo n a
@@ -59,9 +57,6 @@ reaches_still n m (Between lo hi) h = omega arith
 reaches_fresh : (n : ℕ) (a : Ages) → ReachesAge n a → ReachesAge n (with_fresh a)
 reaches_fresh n Empty h = absurd h
 reaches_fresh n (Between lo hi) h = h
-
-false≢true : false ≡ true → ⊥
-false≢true e = cc
 
 Keeps-reaches : (r : Rules) (n : ℕ) → Keeps r (Starts n) (Reaches (min n r.max + 1)) AnyCauses
 Keeps-reaches r n = record {

@@ -1,5 +1,6 @@
 -- What of a step doesn't depend on the ages.
-use Rattle.std.proofs.Common.{◌≡◌, ℕ, Bool, true, false, Option, Some, None, List, [], ◌∷◌, map, refl, sym, ap, ◌∙◌}
+use Rattle.std.proofs.Common.{◌≡◌, ℕ, Bool, true, Option, Some, None, List, [], ◌∷◌, map, refl, sym, ap, ◌∙◌}
+use Rattle.std.proofs.lemmas.Bool.{true≢false}
 use Rattle.pin_matrix.specs.declared.machine.MachineSetup.{MachineSetup}
 use Rattle.pin_matrix.specs.declared.setup.Setup.{Setup}
 use Rattle.pin_matrix.specs.declared.span.Span.{Span}
@@ -46,11 +47,9 @@ Keeps-open r = record {
   unmet = λ z a b h. tt;
 }
 
-abbrev AnyAges : Ages → Ages → Type 0
+-- any two ages
+abbrev pub AnyAges : Ages → Ages → Type 0
 AnyAges a b = Unit {0}
-
-true≢false : true ≡ false → ⊥
-true≢false e = cc
 
 Keeps-edge : (r : Rules) → Keeps r AnyAges SameAfterEdge AnyCauses
 Keeps-edge r = record {

@@ -1,14 +1,12 @@
 -- Where nothing is assumed of X and Y, each end of a course has one next.
 use Rattle.std.proofs.Common.{◌≡◌, true, false, not, ◌&&◌, Option, Some, None, is_some, List, [], ◌∷◌, refl}
+use Rattle.std.proofs.lemmas.Bool.{false≢true}
 use Rattle.std.specs.List.{list_any}
 use Rattle.pin_matrix.specs.declared.assume.Follow.{Follow}
 use Rattle.pin_matrix.specs.declared.assume.Range.{Range}
 use Rattle.span_step.specs.declared.narrowing.Narrowing.{Narrowing}
 use Rattle.span_step.specs.declared.stepped.Next.{Next}
 use Rattle.span_step.specs.Narrowing.{is_unmet, is_wide, narrowed, all_narrowed}
-
-false≢true : false ≡ true → ⊥
-false≢true e = cc
 
 one_next : (f : Follow) (x y : Option Range) (n : Next) → (not (is_some x) && not (is_some y)) ≡ true → narrowed (record { follow = f; x = x; y = y }) n ≡ n ∷ []
 unfolding narrowed

@@ -1,7 +1,7 @@
 -- Ages above the greatest bound are bad by U1 at any row that isn't left out, but for one after which no address is known.
-use Rattle.std.proofs.Common.{◌≡◌, ℕ, Bool, true, false, ◌&&◌, ◌||◌, cond, if◌then◌else◌, IsSome, slice_index_or, slice_index, Option, Some, None, is_some, List, [], ◌∷◌, ◌++◌, map, fold, refl, sym, ap, ◌∙◌, arith}
+use Rattle.std.proofs.Common.{◌≡◌, ℕ, Bool, true, false, ◌&&◌, cond, if◌then◌else◌, IsSome, slice_index_or, slice_index, Option, Some, None, is_some, List, [], ◌∷◌, ◌++◌, map, fold, refl, sym, ap, ◌∙◌, arith}
 use Rattle.std.specs.List.{flat_map}
-use Rattle.std.proofs.lemmas.Bool.{or_parts}
+use Rattle.std.proofs.lemmas.Bool.{or_parts, or_left, or_right, true≢false}
 use Rattle.std.proofs.lemmas.Bool.Decides.{nat_tests}
 use Rattle.std.proofs.lemmas.List.Folds.{fold_along}
 use Rattle.pin_matrix.specs.declared.machine.MachineSetup.{MachineSetup}
@@ -66,9 +66,6 @@ ways_filled (Some true) address o = tt
 ways_filled (Some false) address o = tt
 ways_filled None address o = tt
 
-true≢false : true ≡ false → ⊥
-true≢false e = cc
-
 -- where an address is known after it, an instruction has an outcome
 outcomes_filled : (act : Act) (s : MachineSetup) (sp : Span) (k : Context) → is_wild act ≡ false → IsFilled (outcomes act s sp k)
 unfolding outcomes is_wild
@@ -107,13 +104,6 @@ fold_made f P made b (x ∷ y ∷ ys) h = fold_made f P made (f b x) (y ∷ ys) 
 above_older : (m : ℕ) (a : Ages) → ReachesAge m a → is_above m (older m a) ≡ true
 above_older m Empty h = absurd h
 above_older m (Between lo hi) h = grind (arith, nat_tests)
-
-or_left : (a b : Bool) → a ≡ true → (a || b) ≡ true
-or_left a b e = rw e refl
-
-or_right : (a b : Bool) → b ≡ true → (a || b) ≡ true
-or_right true b e = refl
-or_right false b e = e
 
 -- a cause that came stays, excused or not
 still_u1 : (excused : Bool) (a b : Causes) → a.u1 ≡ true → (if excused then a else joined a b).u1 ≡ true

@@ -1,5 +1,6 @@
 -- After a context in range each next one is in range.
 use Rattle.std.proofs.Common.{◌≡◌, ℕ, zero, suc, ◌+◌, ◌-◌, ◌%◌, ◌<◌, ◌≤◌, ◌==◌, max, nat_lt, nat_le, Bool, true, false, ◌&&◌, cond, if◌then◌else◌, Option, Some, None, List, [], ◌∷◌, ◌++◌, map, fold, refl, subst, rules, arith}
+use Rattle.std.proofs.lemmas.Bool.{and_parts, leb-true}
 use Rattle.std.specs.List.{flat_map, range_with_len}
 use Rattle.std.proofs.lemmas.Bool.Decides.{nat_tests}
 use Rattle.pin_matrix.specs.declared.machine.MachineSetup.{MachineSetup}
@@ -222,12 +223,6 @@ small_numbers most lo (suc n) h =
     let all : lo + suc n ≤ most + 1 = h (omega arith) in
     (let l : lo ≤ most = omega (arith, all) in grind (arith, nat_tests), small_numbers most (lo + 1) n (λ p. omega (arith, all)))
 
-and_right : (a b : Bool) → (a && b) ≡ true → b ≡ true
-and_right true b h = h
-and_right false b h = absurd (bad h) where
-  bad : false ≡ true → ⊥
-  bad e = cc
-
 kept_small : (limit : ℕ) (r : Option Range) (known : Option ℕ) → most_in r ≤ limit → AllSmall limit (kept r (held limit r known))
 kept_small limit None None h = (refl, tt)
 kept_small limit None (Some n) h = on (nat_le n limit) refl where
@@ -237,7 +232,7 @@ kept_small limit None (Some n) h = on (nat_le n limit) refl where
 kept_small limit (Some r) None h = small_numbers limit r.lo (r.hi + 1 - r.lo) (λ p. omega (arith, p, h))
 kept_small limit (Some r) (Some n) h = on (nat_le r.lo n && nat_le n r.hi) refl where
   on : (z : Bool) → (nat_le r.lo n && nat_le n r.hi) ≡ z → AllSmall limit (cond z (Some n ∷ []) [])
-  on true e = let l : n ≤ r.hi = grind (arith, nat_tests, and_right (nat_le r.lo n) (nat_le n r.hi) e) in (let m : n ≤ limit = omega (arith, l, h) in grind (arith, nat_tests), tt)
+  on true e = let l : n ≤ r.hi = leb-true n r.hi (and_parts (nat_le r.lo n) (nat_le n r.hi) e).1 in (let m : n ≤ limit = omega (arith, l, h) in grind (arith, nat_tests), tt)
   on false e = tt
 
 -- the end of a course goes on in the memory, and what may be known after it is followed so far

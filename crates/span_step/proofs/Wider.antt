@@ -40,7 +40,14 @@ below_inside m Empty b h e = cc
 below_inside m (Between lo hi) Empty h e = absurd h
 below_inside m (Between lo hi) (Between low high) h e = below_more m lo low h.0 e
 
-open_inside : (a b : Ages) → IsInside a b → is_open a ≡ true → is_open b ≡ true
+-- ages inside others that are inside third ones
+pub inside_trans : (a b c : Ages) → IsInside a b → IsInside b c → IsInside a c
+inside_trans Empty b c h k = tt
+inside_trans (Between lo hi) Empty c h k = absurd h
+inside_trans (Between lo hi) (Between low high) Empty h k = absurd k
+inside_trans (Between lo hi) (Between low high) (Between least most) h k = (omega arith, omega arith)
+
+pub open_inside : (a b : Ages) → IsInside a b → is_open a ≡ true → is_open b ≡ true
 open_inside Empty b h e = cc
 open_inside (Between lo hi) Empty h e = absurd h
 open_inside (Between lo hi) (Between low high) h e = refl
