@@ -1,5 +1,6 @@
 -- Rows of what is bad in every closed table, worked by hand: a table that is closed but not good counts.
-use Rattle.std.proofs.Common.{◌≡◌, ◌<◌, ◌≤◌, ◌^◌, Bool, true, false, Some, None, List, [], ◌∷◌, replicate, refl, subst, arith}
+use Rattle.std.proofs.Common.{◌≡◌, ◌<◌, ◌≤◌, ◌^◌, true, false, Some, None, List, [], ◌∷◌, replicate, refl, subst, arith}
+use Rattle.std.proofs.lemmas.Bool.{both_ways}
 use Rattle.pio_encode.specs.Word.{reading_of, act_of, delay_of, side_of, set_at}
 use Rattle.pin_matrix.specs.declared.mapping.Mapping.{Mapping}
 use Rattle.pin_matrix.specs.declared.machine.MachineSetup.{MachineSetup}
@@ -10,7 +11,6 @@ use Rattle.pin_matrix.specs.declared.span.SpanUnit.TheVariants.{Ticks}
 use Rattle.pin_matrix.specs.Assumptions.{follow_of, raised_x, raised_y}
 use Rattle.pin_matrix.specs.Followed.{followed}
 use Rattle.pin_matrix.proofs.Greatest.{of_some}
-use Rattle.span_step.specs.declared.ages.Ages.{Ages}
 use Rattle.span_step.specs.declared.ages.Ages.TheVariants.{Empty, Between}
 use Rattle.span_step.specs.declared.cause.Cause.TheVariants.{U1, U2}
 use Rattle.span_step.specs.Contexts.{Context}
@@ -18,11 +18,10 @@ use Rattle.span_step.specs.Courses.{prompt, courses, watched}
 use Rattle.span_step.specs.Narrowing.{narrowed, narrowing_after, nexts_of, with_assumptions}
 use Rattle.span_step.specs.Outcomes.{outcomes, is_wild, may_stall}
 use Rattle.span_step.specs.Steps.{bounds_of, rules_of, visit_of, with_end, with_outcome, step_by, context_steps}
-use Rattle.span_bounds.specs.declared.entry.Entry.{Entry}
-use Rattle.span_bounds.specs.declared.entry.Entry.TheVariants.{Present}
 use Rattle.span_bounds.specs.declared.row.Row.{Row}
 use Rattle.span_bounds.specs.Tables.{start_context, IsTable, IsClosed}
 use Rattle.span_bounds.specs.Answers.{IsBadEverywhere}
+use Rattle.span_bounds.proofs.Least.{same_ages}
 
 -- pin 0
 abbrev pin_0 : Mapping
@@ -140,22 +139,15 @@ closed_row : IsClosed blink two_ticks table
 unfolding blink two_ticks start_context context_steps step_by with_outcome with_end visit_of rules_of bounds_of courses prompt watched outcomes is_wild may_stall reading_of act_of delay_of side_of set_at follow_of raised_x raised_y narrowing_after with_assumptions narrowed nexts_of
 closed_row = record { starts = tt; steps = (((omega arith, omega arith), tt), ((tt, tt), tt)) }
 
--- an entry has one row
-same_ages : (a b : Ages) → ◌≡◌ {A = Entry} (Present a) (Present b) → a ≡ b
-same_ages a b e = cc
-
-never : {b : Bool} → b ≡ true → b ≡ false → ⊥
-never h k = cc
-
 -- The table is closed and isn't good, and it counts: its row of the fall is bad for U2, and not for U1; that of the rise isn't bad.
 fall_row : IsBadEverywhere blink two_ticks high U1 → ⊥
 unfolding blink two_ticks start_context context_steps step_by with_outcome with_end visit_of rules_of bounds_of courses prompt watched outcomes is_wild may_stall reading_of act_of delay_of side_of set_at follow_of raised_x raised_y narrowing_after with_assumptions narrowed nexts_of
 fall_row is =
     let found = is.bad table table_row closed_row in
-    never found.1.1 (subst (λ a. (context_steps blink two_ticks high a).causes.u1 ≡ false) (same_ages (Between 0 0) found.0 found.1.0) refl)
+    both_ways _ (subst (λ a. (context_steps blink two_ticks high a).causes.u1 ≡ false) (same_ages found.1.0) refl) found.1.1
 
 rise_row : IsBadEverywhere blink two_ticks low U2 → ⊥
 unfolding blink two_ticks start_context context_steps step_by with_outcome with_end visit_of rules_of bounds_of courses prompt watched outcomes is_wild may_stall reading_of act_of delay_of side_of set_at follow_of raised_x raised_y narrowing_after with_assumptions narrowed nexts_of
 rise_row is =
     let found = is.bad table table_row closed_row in
-    never found.1.1 (subst (λ a. (context_steps blink two_ticks low a).causes.u2 ≡ false) (same_ages Empty found.0 found.1.0) refl)
+    both_ways _ (subst (λ a. (context_steps blink two_ticks low a).causes.u2 ≡ false) (same_ages found.1.0) refl) found.1.1

@@ -8,9 +8,9 @@ use Rattle.pin_matrix.specs.declared.assume.Follow.{Follow}
 use Rattle.span_step.specs.declared.ages.Ages.{Ages}
 use Rattle.span_step.specs.declared.ages.Ages.TheVariants.{Empty, Between}
 use Rattle.span_step.specs.declared.stepped.Next.{Next}
-use Rattle.span_step.specs.Contexts.{IsInside, is_open}
+use Rattle.span_step.specs.Contexts.{is_open}
 use Rattle.span_step.specs.Laws.{AreAlike, GoesLike, AreInside, OpenAlike, AllReach, ReachesAge, AreUpTo, cap_of}
-use Rattle.span_step.proofs.Wider.{IsNarrower-context_steps}
+use Rattle.span_step.proofs.Wider.{IsNarrower-context_steps, open_inside}
 use Rattle.span_step.proofs.Alike.{OpenAlike-context_steps}
 use Rattle.span_bounds.specs.declared.entry.Entry.{Entry}
 use Rattle.span_bounds.specs.declared.entry.Entry.TheVariants.{Absent, Present}
@@ -25,18 +25,10 @@ use Rattle.span_bounds.proofs.Ends.{ReachesAt, left_above, nexts_reach}
 use Rattle.span_bounds.proofs.Filled.{capped}
 use Rattle.span_bounds.specs.Numbers.{contexts_of}
 
-clash : {b : Bool} → b ≡ true → b ≡ false → ⊥
-clash p q = cc
-
 -- a next of a row is held where the row is held
 held_by : (a b : Ages) (e : Entry) → (is_open a ≡ true → is_open b ≡ true) → IsHeldBy b e → IsHeldBy a e
 held_by a b Absent k h = h
 held_by a b (Present c) k h = λ o. h (k o)
-
-open_inside : (a b : Ages) → IsInside a b → is_open a ≡ true → is_open b ≡ true
-open_inside Empty b h e = cc
-open_inside (Between lo hi) Empty h e = absurd h
-open_inside (Between lo hi) (Between low high) h e = refl
 
 held_narrower : (far : Follow) (f : ℕ → Entry) (ms ns : List Next) → AreAlike (GoesLike AreInside) ms ns → AreHeld far f ns → AreHeld far f ms
 held_narrower far f [] ns h l = tt

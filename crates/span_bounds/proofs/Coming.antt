@@ -1,5 +1,5 @@
 -- Lists of nexts and of numbers, element by element.
-use Rattle.std.proofs.Common.{◌≡◌, ℕ, zero, suc, ◌+◌, ◌<◌, ◌≢◌, ◌⊎◌, List, [], ◌∷◌, ◌++◌, length, get_or, take, inl, inr, add-one, arith}
+use Rattle.std.proofs.Common.{◌≡◌, ℕ, zero, suc, ◌+◌, ◌<◌, ◌⊎◌, List, [], ◌∷◌, ◌++◌, length, get_or, take, inl, inr, add-one, arith}
 use Rattle.std.proofs.lemmas.Bool.{cases_lt}
 use Rattle.span_step.specs.declared.stepped.Next.{Next}
 use Rattle.span_bounds.specs.Edges.{EachNext, Among}
@@ -36,8 +36,6 @@ Among-pop i j [] h = h
 Among-pop i j (x ∷ w) (inl e) = inr (inl e)
 Among-pop i j (x ∷ w) (inr h) = elim (Among-pop i j w h) [ inl e ↦ inl e | inr m ↦ inr (inr m) ]
 
-pub same_or_not : (i j : ℕ) → (i ≡ j) ⊎ (i ≢ j)
-same_or_not i j = elim (cases_lt i j) [
-  | inl below ↦ inr (λ e. omega arith)
-  | inr above ↦ elim (cases_lt j i) [ inl more ↦ inr (λ e. omega arith) | inr least ↦ inl (omega arith) ]
-]
+-- below n, or n itself
+pub below_or : (i n : ℕ) → i < n + 1 → (i < n) ⊎ (i ≡ n)
+below_or i n l = elim (cases_lt i n) [ inl less ↦ inl less | inr more ↦ inr (omega arith) ]

@@ -3,7 +3,7 @@ use Rattle.std.proofs.Common.{◌≡◌, ◌≢◌, ℕ, zero, suc, ◌+◌, ◌
 use Rattle.std.proofs.Math.ListN.{set}
 use Rattle.std.proofs.lemmas.Bool.Decides.{nat_tests}
 use Rattle.std.proofs.lemmas.List.{length-set, get_or-set_same, get_or-set_other, take_more, length-replicate, get_or-replicate}
-use Rattle.std.proofs.lemmas.Bool.{and_parts}
+use Rattle.std.proofs.lemmas.Bool.{and_parts, cases_eq, both_ways}
 use Rattle.pin_matrix.specs.Followed.{followed}
 use Rattle.pin_matrix.specs.declared.setup.Setup.{Setup}
 use Rattle.pin_matrix.specs.declared.span.Span.{Span}
@@ -18,7 +18,7 @@ use Rattle.span_bounds.specs.Edges.{at, nexts_at, spot, EachNext, EndsAt, IsClos
 use Rattle.span_bounds.specs.Reach.{IsHeldBy, AreHeld, IsReach}
 use Rattle.span_bounds.specs.Sums.{total, passages, waits, one_if}
 use Rattle.span_bounds.specs.Count.{LieBut, IsUnder, Count, Counting, Counted}
-use Rattle.span_bounds.proofs.Coming.{EachNext-at, EachNext-more, EachNext-map, same_or_not}
+use Rattle.span_bounds.proofs.Coming.{EachNext-at, EachNext-more, EachNext-map, below_or}
 use Rattle.span_bounds.proofs.Passages.{passages-take}
 use Rattle.span_bounds.proofs.Joins.{joined_at, lies_at_join, lies_still, IsUnder-join, closed_lie_but}
 use Rattle.span_bounds.specs.Numbers.{contexts_of}
@@ -48,7 +48,7 @@ but_still far o x p a ns l h = EachNext-map (λ n. (o && n.passes) ≡ false →
 
 -- the number at p is one more
 raised_number : (m : List ℕ) (p v : ℕ) → p < length m → slice_index (set m p (slice_index m p + 1)) v ≡ slice_index m v + one_if (p == v)
-raised_number m p v l = on (same_or_not v p) where
+raised_number m p v l = on (cases_eq v p) where
   on : (v ≡ p) ⊎ (v ≢ p) → slice_index (set m p (slice_index m p + 1)) v ≡ slice_index m v + one_if (p == v)
   on (inl e) = let t : (p == v) ≡ true = grind (arith, nat_tests) in rw (t, e, get_or-set_same m p (slice_index m p + 1) 0 l) refl
   on (inr n) = let t : (p == v) ≡ false = grind (arith, nat_tests) in rw (t, get_or-set_other m p v (slice_index m p + 1) 0 n) (omega arith)
@@ -96,11 +96,8 @@ Counting-step u sp g x x' m m' i a items k n reach l entry e lk q near c r = on 
     rows = c.rows;
     row = c.row;
     fresh = c.fresh;
-    done_fresh = (EachNext-more (λ y. (is_open a && y.passes) ≡ false → LiesAt y.ages (at x (spot (followed sp) y))) items k n lk c.done_fresh (subst (λ y. (is_open a && y.passes) ≡ false → LiesAt y.ages (at x (spot (followed sp) y))) q (λ f. absurd (clash z f))));
+    done_fresh = (EachNext-more (λ y. (is_open a && y.passes) ≡ false → LiesAt y.ages (at x (spot (followed sp) y))) items k n lk c.done_fresh (subst (λ y. (is_open a && y.passes) ≡ false → LiesAt y.ages (at x (spot (followed sp) y))) q (λ f. absurd (both_ways _ f z))));
   }) where
-    clash : {b : Bool} → b ≡ true → b ≡ false → ⊥
-    clash p q = cc
-
     small : (v : ℕ) → slice_index m v ≤ 8 * i + passages (followed sp) v (take k items) → passages (followed sp) v (take (k + 1) items) ≡ passages (followed sp) v (take k items) + one_if (n.passes && spot (followed sp) n == v) → one_if (n.passes && spot (followed sp) n == v) ≡ one_if (spot (followed sp) n == v) → slice_index m v + one_if (spot (followed sp) n == v) ≤ 8 * i + passages (followed sp) v (take (k + 1) items)
     small v h e o = omega arith
 
@@ -150,10 +147,6 @@ Counting-begins u sp g x x' m i a reach l entry e c = rw e (record {
   nothing v true = rw (passages-nil (followed sp) v) (omega arith)
   nothing v false = omega arith
 
--- below n, or n itself
-below_or : (i n : ℕ) → i < n + 1 → (i < n) ⊎ (i ≡ n)
-below_or i n l = elim (same_or_not i n) [ inl e ↦ inr e | inr d ↦ inl (omega arith) ]
-
 total-more : (n : ℕ) (f : ℕ → ℕ) → total (n + 1) f ≡ total n f + f n
 unfolding total
 total-more n f = rw add-one refl
@@ -182,13 +175,10 @@ Count-skips u sp g x m i none c = record {
   under = c.under;
   numbers = c.numbers;
   small = λ v. omega (arith, c.small v);
-  count = λ v b. c.count v b ∙ sym (total-more i (waits u sp (at g) v) ∙ (ap (λ t. total i (waits u sp (at g) v) + t) (here v) ∙ plus_zero _));
+  count = λ v b. c.count v b ∙ sym (total-more i (waits u sp (at g) v) ∙ (ap (λ t. total i (waits u sp (at g) v) + t) (here v) ∙ add-zero _));
   rows = λ j b l q. elim (below_or j i l) [ inl s ↦ c.rows j b s q | inr s ↦ absurd (clash none (rw s at q)) ];
   fresh = λ j b l q. elim (below_or j i l) [ inl s ↦ c.fresh j b s q | inr s ↦ absurd (clash none (rw s at q)) ];
 } where
-  plus_zero : (n : ℕ) → n + 0 ≡ n
-  plus_zero n = omega arith
-
   here : (v : ℕ) → waits u sp (at g) v i ≡ 0
   here v = rw none refl
 

@@ -1,5 +1,6 @@
 -- The entries by which the rows are judged are a closed table, and every least closed table has the same first causes.
 use Rattle.std.proofs.Common.{◌≡◌, ℕ, zero, suc, ◌+◌, ◌-◌, ◌^◌, ◌<◌, ◌≤◌, ◌&&◌, Bool, true, false, IsSome, List, [], ◌∷◌, length, refl, ap, ◌∙◌, arith}
+use Rattle.std.proofs.lemmas.Bool.{both_ways}
 use Rattle.pin_matrix.specs.Followed.{followed}
 use Rattle.pin_matrix.specs.declared.setup.Setup.{Setup}
 use Rattle.pin_matrix.specs.declared.span.Span.{Span}
@@ -72,9 +73,6 @@ both_inside (Between lo hi) (Between low high) h k =
     let p : lo ≡ low = omega arith in
     let q : hi ≡ high = omega arith in rw (p, q) refl
 
-clash : {b : Bool} → b ≡ true → b ≡ false → ⊥
-clash p q = cc
-
 -- a grid that is closed has the rows of a closed table
 pub closed_rows : (u : Setup) (sp : Span) (g : List Entry) → length g ≡ (contexts_of sp) → IsClosedAt u sp (at g) → IsClosed u sp (rows_from (followed sp) 0 g)
 unfolding nexts_at
@@ -106,7 +104,7 @@ module _ (u : Setup) (sp : Span) (l x : List Entry) (t : IsTaken u sp l x) (read
   not_passed : (n : Next) → (n.passes ≡ true → open_at (at l (spot (followed sp) n)) ≡ true) → open_at (at l (spot (followed sp) n)) ≡ false → n.passes ≡ false
   not_passed n h o = on n.passes refl where
     on : (z : Bool) → n.passes ≡ z → n.passes ≡ false
-    on true p = absurd (clash (h p) o)
+    on true p = absurd (both_ways _ o (h p))
     on false p = p
 
   all_left : (i : ℕ) (a b : Ages) → i < (contexts_of sp) → at l i ≡ Present a → open_at (at l i) ≡ true → AllLie (followed sp) (at (filled_all l x)) (nexts_at u sp i b)
@@ -123,7 +121,7 @@ module _ (u : Setup) (sp : Span) (l x : List Entry) (t : IsTaken u sp l x) (read
   closed_steps : (i : ℕ) (a : Ages) → i < (contexts_of sp) → at (filled_all l x) i ≡ Present a → AllLie (followed sp) (at (filled_all l x)) (nexts_at u sp i a)
   closed_steps i a m q = on (open_at (at l i)) (at l i) refl refl where
     on : (z : Bool) (e : Entry) → open_at (at l i) ≡ z → at l i ≡ e → AllLie (followed sp) (at (filled_all l x)) (nexts_at u sp i a)
-    on true Absent o p = absurd (clash (rw p at o) refl)
+    on true Absent o p = absurd (both_ways _ refl (rw p at o))
     on true (Present b) o p = all_left i b a m p o
     on false e o p = all_lie i a (t.done i a m o (rw (at_filled i, o) at q))
 

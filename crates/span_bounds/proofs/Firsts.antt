@@ -1,7 +1,8 @@
 -- The first bad row of a table by the causes at the numbers.
-use Rattle.std.proofs.Common.{◌≡◌, ◌≢◌, ℕ, ◌+◌, ◌<◌, ◌≤◌, ◌==◌, ◌⊎◌, max, nat_lt, true, false, Some, None, List, [], ◌∷◌, refl, sym, ◌∙◌, inl, inr, arith}
+use Rattle.std.proofs.Common.{◌≡◌, ◌≢◌, ℕ, ◌+◌, ◌<◌, ◌≤◌, ◌⊎◌, max, nat_lt, true, Some, None, List, [], ◌∷◌, refl, sym, ◌∙◌, inl, inr, arith}
 use Rattle.std.proofs.lemmas.Bool.Decides.{nat_tests}
-use Rattle.std.proofs.lemmas.Bool.{cases_lt}
+use Rattle.std.proofs.lemmas.Bool.{cases_lt, eq-eqb, ne_eqb}
+use Rattle.std.proofs.lemmas.Option.{none-some}
 use Rattle.pin_matrix.specs.Followed.{followed}
 use Rattle.pin_matrix.specs.declared.setup.Setup.{Setup}
 use Rattle.pin_matrix.specs.declared.span.Span.{Span}
@@ -23,12 +24,6 @@ use Rattle.span_bounds.proofs.Filled.{same_first}
 use Rattle.span_bounds.proofs.Least.{least_rows}
 use Rattle.pin_matrix.specs.declared.assume.Follow.{Follow}
 
-pub same_number : (n m : ℕ) → n ≡ m → (n == m) ≡ true
-same_number n m e = grind (arith, nat_tests)
-
-pub other_number : (n m : ℕ) → n ≢ m → (n == m) ≡ false
-other_number n m e = grind (arith, nat_tests)
-
 from_below : (n m : ℕ) → nat_lt n (m + 1) ≡ true → n ≤ m
 from_below n m e = grind (arith, nat_tests)
 
@@ -37,25 +32,20 @@ pub absent_before : (far : Follow) (m i : ℕ) (rows : List Row) → IsTableFrom
 absent_before far m i [] t l = refl
 absent_before far m i (r ∷ rows) t l =
     let b : m ≤ number_of far r.context = from_below m (number_of far r.context) t.1.0 in
-    rw (other_number (number_of far r.context) i (λ e. omega arith)) (absent_before far (number_of far r.context + 1) i rows t.1.1 (omega arith))
+    rw (ne_eqb (number_of far r.context) i (λ e. omega arith)) (absent_before far (number_of far r.context + 1) i rows t.1.1 (omega arith))
 
 -- the first bad row of a table is at the first number with a cause
 first_at : (u : Setup) (sp : Span) (n : ℕ) (k : Cause) (m : ℕ) (rows : List Row) → IsTableFrom (followed sp) m rows → ((i : ℕ) → m ≤ i → i < n → cause_by u sp i (entry_at (followed sp) rows i) ≡ None) → cause_by u sp n (entry_at (followed sp) rows n) ≡ Some k → first_bad u sp rows ≡ Some (context_at (followed sp) n, k)
-first_at u sp n k m [] t good bad = absurd (never bad) where
-  never : None ≡ Some k → ⊥
-  never e = cc
+first_at u sp n k m [] t good bad = absurd (none-some k bad)
 first_at u sp n k m (r ∷ rows) t good bad = on (cases_lt (number_of (followed sp) r.context) n) (cases_lt n (number_of (followed sp) r.context)) (λ g b. first_at u sp n k (number_of (followed sp) r.context + 1) rows t.1.1 g b) where
   below : m ≤ number_of (followed sp) r.context
   below = from_below m (number_of (followed sp) r.context) t.1.0
 
   own : cause_by u sp (number_of (followed sp) r.context) (entry_at (followed sp) (r ∷ rows) (number_of (followed sp) r.context)) ≡ first_cause (context_steps u sp r.context r.ages).causes
-  own = rw (same_number (number_of (followed sp) r.context) (number_of (followed sp) r.context) refl, context_at-number_of (followed sp) r.context t.0) refl
+  own = rw (eq-eqb (number_of (followed sp) r.context) (number_of (followed sp) r.context) refl, context_at-number_of (followed sp) r.context t.0) refl
 
   skip : (i : ℕ) → number_of (followed sp) r.context ≢ i → entry_at (followed sp) (r ∷ rows) i ≡ entry_at (followed sp) rows i
-  skip i d = rw (other_number (number_of (followed sp) r.context) i d) refl
-
-  never : None ≡ Some k → ⊥
-  never e = cc
+  skip i d = rw (ne_eqb (number_of (followed sp) r.context) i d) refl
 
   on : (number_of (followed sp) r.context < n) ⊎ (n ≤ number_of (followed sp) r.context) → (n < number_of (followed sp) r.context) ⊎ (number_of (followed sp) r.context ≤ n) → (((i : ℕ) → number_of (followed sp) r.context + 1 ≤ i → i < n → cause_by u sp i (entry_at (followed sp) rows i) ≡ None) → cause_by u sp n (entry_at (followed sp) rows n) ≡ Some k → first_bad u sp rows ≡ Some (context_at (followed sp) n, k)) → first_bad u sp (r ∷ rows) ≡ Some (context_at (followed sp) n, k)
   on (inl before) o later =
@@ -64,7 +54,7 @@ first_at u sp n k m (r ∷ rows) t good bad = on (cases_lt (number_of (followed 
   on (inr from) (inl above) later =
       let gone : entry_at (followed sp) rows n ≡ Absent = absent_before (followed sp) (number_of (followed sp) r.context + 1) n rows t.1.1 (omega arith) in
       let bad' : cause_by u sp n (entry_at (followed sp) rows n) ≡ Some k = rw (skip n (λ e. omega arith)) at bad in
-      absurd (never (rw gone at bad'))
+      absurd (none-some k (rw gone at bad'))
   on (inr from) (inr to) later =
       let same : n ≡ number_of (followed sp) r.context = omega arith in
       let some : first_cause (context_steps u sp r.context r.ages).causes ≡ Some k = sym own ∙ (rw same at bad) in

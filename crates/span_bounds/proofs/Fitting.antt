@@ -1,13 +1,9 @@
 -- How many contexts there may be: what a span assumes has few enough pairs of X and Y.
-use Rattle.std.proofs.Common.{◌≡◌, ℕ, ◌+◌, ◌-◌, ◌*◌, ◌/◌, ◌^◌, ◌<◌, ◌≤◌, ◌⊎◌, max, true, nat_le, List, inl, inr, arith, mul-le-mul, mul-le-mul_right, div-mul-le_self}
-use Rattle.std.proofs.lemmas.Bool.{and_parts, cases_lt}
-use Rattle.std.proofs.lemmas.Bool.Decides.{nat_tests}
+use Rattle.std.proofs.Common.{◌≡◌, ℕ, ◌+◌, ◌-◌, ◌*◌, ◌/◌, ◌^◌, ◌<◌, ◌≤◌, ◌⊎◌, max, true, List, inl, inr, arith, mul-le-mul, mul-le-mul_right, div-mul-le_self}
+use Rattle.std.proofs.lemmas.Bool.{and_parts, cases_lt, leb-true}
 use Rattle.pin_matrix.specs.declared.assume.Assumption.{Assumption}
 use Rattle.pin_matrix.specs.Assumptions.{are_assumptions, are_few, are_few_pairs, follow_of, most_x, most_y, usual_beside}
 use Rattle.span_bounds.specs.Numbers.{contexts}
-
-le_from : (m n : ℕ) → nat_le m n ≡ true → m ≤ n
-le_from m n e = grind (arith, nat_tests)
 
 -- a register that is followed as far as the pairs fit beside another
 beside : (m n u : ℕ) → m < u → u ≤ 2 ^ 17 / (n + 2) - 2 → (u + 2) * (n + 2) ≤ 2 ^ 17
@@ -52,4 +48,4 @@ fit x y h = let e : y * (x * 32) ≡ x * y * 32 = omega arith in omega arith
 -- they are numbers of 25 bits
 pub contexts_fit : (items : List Assumption) → are_assumptions items ≡ true → contexts (follow_of items) ≤ 2 ^ 24
 unfolding contexts follow_of
-contexts_fit items h = fit _ _ (pairs (most_x items) (most_y items) (le_from _ _ (and_parts (are_few items) (are_few_pairs (most_x items) (most_y items)) h).1))
+contexts_fit items h = fit _ _ (pairs (most_x items) (most_y items) (leb-true _ _ (and_parts (are_few items) (are_few_pairs (most_x items) (most_y items)) h).1))

@@ -1,5 +1,6 @@
 -- The rows of a grid.
-use Rattle.std.proofs.Common.{◌≡◌, ◌≢◌, ℕ, zero, suc, ◌+◌, ◌<◌, ◌≤◌, ◌==◌, true, false, nat_lt, List, [], ◌∷◌, length, replicate, get_or, refl, ap, ◌∙◌, arith}
+use Rattle.std.proofs.Common.{◌≡◌, ℕ, zero, suc, ◌+◌, ◌<◌, ◌≤◌, true, nat_lt, List, [], ◌∷◌, length, replicate, get_or, refl, ap, ◌∙◌, arith}
+use Rattle.std.proofs.lemmas.Bool.{eq-eqb, ne_eqb}
 use Rattle.std.proofs.lemmas.Bool.Decides.{nat_tests}
 use Rattle.span_bounds.specs.declared.entry.Entry.{Entry}
 use Rattle.span_bounds.specs.declared.entry.Entry.TheVariants.{Absent, Present}
@@ -8,18 +9,12 @@ use Rattle.span_bounds.specs.Tables.{entry_at, rows_from, IsTableFrom, IsTable}
 use Rattle.span_bounds.proofs.Placing.{number_of-context_at, is_placed-context_at}
 use Rattle.pin_matrix.specs.declared.assume.Follow.{Follow}
 
-same_number : (n m : ℕ) → n ≡ m → (n == m) ≡ true
-same_number n m e = grind (arith, nat_tests)
-
-other_number : (n m : ℕ) → n ≢ m → (n == m) ≡ false
-other_number n m e = grind (arith, nat_tests)
-
 -- no row comes before the first
 before : (far : Follow) (n : ℕ) (g : List Entry) (i : ℕ) → i < n → entry_at far (rows_from far n g) i ≡ Absent
 before far n [] i l = refl
 before far n (Absent ∷ g) i l = before far (n + 1) g i (omega arith)
 before far n (Present a ∷ g) i l =
-    rw (other_number (number_of far (context_at far n)) i (λ e. omega (arith, number_of-context_at far n))) (before far (n + 1) g i (omega arith))
+    rw (ne_eqb (number_of far (context_at far n)) i (λ e. omega (arith, number_of-context_at far n))) (before far (n + 1) g i (omega arith))
 
 from : (far : Follow) (n : ℕ) (g : List Entry) (i : ℕ) → entry_at far (rows_from far n g) (n + i) ≡ get_or g i Absent
 from far n [] i = refl
@@ -27,9 +22,9 @@ from far n (Absent ∷ g) zero = before far (n + 1) g (n + 0) (omega arith)
 from far n (Absent ∷ g) (suc i) = ap (entry_at far (rows_from far (n + 1) g)) (shift n i) ∙ from far (n + 1) g i where
   shift : (n i : ℕ) → n + suc i ≡ (n + 1) + i
   shift n i = omega arith
-from far n (Present a ∷ g) zero = rw (same_number (number_of far (context_at far n)) (n + 0) (omega (arith, number_of-context_at far n))) refl
+from far n (Present a ∷ g) zero = rw (eq-eqb (number_of far (context_at far n)) (n + 0) (omega (arith, number_of-context_at far n))) refl
 from far n (Present a ∷ g) (suc i) =
-    rw (other_number (number_of far (context_at far n)) (n + suc i) (λ e. omega (arith, number_of-context_at far n)))
+    rw (ne_eqb (number_of far (context_at far n)) (n + suc i) (λ e. omega (arith, number_of-context_at far n)))
     (ap (entry_at far (rows_from far (n + 1) g)) (shift n i) ∙ from far (n + 1) g i) where
       shift : (n i : ℕ) → n + suc i ≡ (n + 1) + i
       shift n i = omega arith

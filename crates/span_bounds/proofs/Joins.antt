@@ -1,6 +1,7 @@
 -- Ages that join an entry, and what a table keeps then.
 use Rattle.std.proofs.Common.{◌≡◌, ◌≢◌, ℕ, ◌<◌, ◌⊎◌, Bool, true, false, ◌&&◌, List, [], ◌∷◌, length, refl, sym, ◌∙◌, inl, inr, arith}
 use Rattle.std.proofs.Math.ListN.{set}
+use Rattle.std.proofs.lemmas.Bool.{cases_eq}
 use Rattle.std.proofs.lemmas.List.{length-set}
 use Rattle.pin_matrix.specs.Followed.{followed}
 use Rattle.pin_matrix.specs.declared.setup.Setup.{Setup}
@@ -10,7 +11,7 @@ use Rattle.span_step.specs.declared.ages.Ages.TheVariants.{Empty, Between}
 use Rattle.span_step.specs.declared.stepped.Next.{Next}
 use Rattle.span_step.specs.Contexts.{IsInside, is_open}
 use Rattle.span_step.specs.Laws.{AreAlike, GoesLike, AreInside, SameAfterEdge}
-use Rattle.span_step.proofs.Wider.{IsNarrower-context_steps}
+use Rattle.span_step.proofs.Wider.{IsNarrower-context_steps, inside_trans}
 use Rattle.span_step.proofs.Alike.{SameAfterEdge-context_steps}
 use Rattle.span_bounds.specs.declared.entry.Entry.{Entry}
 use Rattle.span_bounds.specs.declared.entry.Entry.TheVariants.{Absent, Present}
@@ -19,7 +20,7 @@ use Rattle.span_bounds.specs.Edges.{at, nexts_at, spot, AllLie, IsClosedAt}
 use Rattle.span_bounds.specs.Reach.{IsHeldBy, Below}
 use Rattle.span_bounds.specs.Sums.{join, join_into}
 use Rattle.span_bounds.specs.Count.{EntryIn, LieBut, IsUnder}
-use Rattle.span_bounds.proofs.Coming.{EachNext-map, same_or_not}
+use Rattle.span_bounds.proofs.Coming.{EachNext-map}
 use Rattle.span_bounds.proofs.Reaching.{at_same, at_other}
 use Rattle.span_bounds.specs.Numbers.{contexts_of}
 use Rattle.pin_matrix.specs.declared.assume.Follow.{Follow}
@@ -27,12 +28,6 @@ use Rattle.pin_matrix.specs.declared.assume.Follow.{Follow}
 inside_refl : (a : Ages) → IsInside a a
 inside_refl Empty = tt
 inside_refl (Between lo hi) = (omega arith, omega arith)
-
-pub inside_trans : (a b c : Ages) → IsInside a b → IsInside b c → IsInside a c
-inside_trans Empty b c h k = tt
-inside_trans (Between lo hi) Empty c h k = absurd h
-inside_trans (Between lo hi) (Between low high) Empty h k = absurd k
-inside_trans (Between lo hi) (Between low high) (Between least most) h k = (omega arith, omega arith)
 
 inside_left : (a b : Ages) → IsInside a (join a b)
 inside_left Empty b = tt
@@ -86,7 +81,7 @@ pub lies_at_join : (x : List Entry) (p : ℕ) (a : Ages) → p < length x → Li
 lies_at_join x p a l = rw (at_same x p (Present (join_into a (at x p))) l) (lies_join a (at x p))
 
 pub lies_still : (x : List Entry) (p : ℕ) (a c : Ages) (j : ℕ) → p < length x → LiesAt c (at x j) → LiesAt c (at (joined_at x p a) j)
-lies_still x p a c j l h = on (same_or_not j p) where
+lies_still x p a c j l h = on (cases_eq j p) where
   on : (j ≡ p) ⊎ (j ≢ p) → LiesAt c (at (joined_at x p a) j)
   on (inl e) = rw (e, at_same x p (Present (join_into a (at x p))) l) (lies_joined a c (at x p) (rw e at h))
   on (inr n) = rw (at_other x p j (Present (join_into a (at x p))) n) h
@@ -94,8 +89,8 @@ lies_still x p a c j l h = on (same_or_not j p) where
 pub IsUnder-join : (u : Setup) (sp : Span) (g x : List Entry) (p : ℕ) (a : Ages) → p < (contexts_of sp) → IsUnder u sp g x → ((f : ℕ → Entry) → IsClosedAt u sp f → LiesAt a (f p)) → IsHeldBy a (at g p) → IsUnder u sp g (joined_at x p a)
 IsUnder-join u sp g x p a l s needed h = record {
   size = length-set x p (Present (join_into a (at x p))) ∙ s.size;
-  least = λ f c j m. least f c j m (same_or_not j p);
-  within = λ j m. within j m (same_or_not j p);
+  least = λ f c j m. least f c j m (cases_eq j p);
+  within = λ j m. within j m (cases_eq j p);
 } where
   inside : p < length x
   inside = rw s.size l

@@ -1,9 +1,8 @@
 -- The least closed table. A table that lies in every closed one, and isn't closed, has a next that lies nowhere: with that next's
 -- ages it still lies in every closed one. So it grows until it is closed, since ages have a bound.
-use Rattle.std.proofs.Common.{◌≡◌, ◌≢◌, ℕ, zero, suc, ◌+◌, ◌-◌, ◌<◌, ◌≤◌, ◌⊎◌, min, max, ◌&&◌, nat_lt, nat_le, Bool, true, false, Option, Some, None, List, [], ◌∷◌, length, set, replicate, get_or, refl, sym, ◌∙◌, subst, inl, inr, arith}
+use Rattle.std.proofs.Common.{◌≡◌, ◌≢◌, ℕ, zero, suc, ◌+◌, ◌-◌, ◌<◌, ◌≤◌, ◌⊎◌, min, max, nat_lt, nat_le, Bool, true, false, Option, Some, None, List, [], ◌∷◌, length, set, replicate, get_or, refl, sym, ◌∙◌, subst, inl, inr, arith}
 use Rattle.std.specs.Prelude.{sum_by}
-use Rattle.std.proofs.lemmas.Bool.{cases_lt}
-use Rattle.std.proofs.lemmas.Bool.Decides.{nat_tests}
+use Rattle.std.proofs.lemmas.Bool.{cases_lt, cases_eq, and_from, lt-ltb}
 use Rattle.std.proofs.lemmas.List.{length-set, length-replicate, get_or-replicate}
 use Rattle.std.proofs.lemmas.List.Sums.{sum_by-set}
 use Rattle.pin_matrix.specs.Followed.{followed}
@@ -27,7 +26,6 @@ use Rattle.span_bounds.specs.Sums.{join_into}
 use Rattle.span_bounds.specs.Count.{EntryIn}
 use Rattle.span_bounds.proofs.Placing.{contexts_some, number_below, number_of-context_at}
 use Rattle.span_bounds.proofs.PlacedNexts.{placed_nexts}
-use Rattle.span_bounds.proofs.Coming.{same_or_not}
 use Rattle.span_bounds.proofs.Reaching.{at_same, at_other}
 use Rattle.span_bounds.proofs.Joins.{joined_at, join_lies, lies_still, closed_lies}
 use Rattle.span_bounds.proofs.Grids.{IsTable-rows_from}
@@ -86,17 +84,18 @@ record Missing (u : Setup) (sp : Span) (x : List Entry) : Type 0 where
 abbrev ClosedBelow : Setup → Span → List Entry → ℕ → Type 0
 ClosedBelow u sp x n = (i : ℕ) (a : Ages) → i < n → at x i ≡ Present a → AllLie (followed sp) (at x) (nexts_at u sp i a)
 
-no_row : {a : Ages} → Absent ≡ Present a → ⊥
+-- of entries: no row is none, and an entry has one row
+pub no_row : {a : Ages} → Absent ≡ Present a → ⊥
 no_row e = cc
 
-same_ages : {a b : Ages} → Present a ≡ Present b → a ≡ b
+pub same_ages : {a b : Ages} → Present a ≡ Present b → a ≡ b
 same_ages e = cc
 
 closed_or_missing : (u : Setup) (sp : Span) (x : List Entry) (n : ℕ) → n ≤ (contexts_of sp) → ClosedBelow u sp x n ⊎ Missing u sp x
 closed_or_missing u sp x zero l = inl (λ i a m q. absurd (omega (arith, m)))
 closed_or_missing u sp x (suc n) l = on (closed_or_missing u sp x n (omega (arith, l))) (at x n) refl where
   last : (e : Entry) → at x n ≡ e → ClosedBelow u sp x n → ((a : Ages) → e ≡ Present a → AllLie (followed sp) (at x) (nexts_at u sp n a)) → ClosedBelow u sp x (suc n)
-  last e q c h i a m p = by (same_or_not i n) where
+  last e q c h i a m p = by (cases_eq i n) where
     by : (i ≡ n) ⊎ (i ≢ n) → AllLie (followed sp) (at x) (nexts_at u sp i a)
     by (inl s) = subst (λ j. AllLie (followed sp) (at x) (nexts_at u sp j a)) (sym s) (h a (sym q ∙ (rw s at p)))
     by (inr d) = c i a (omega arith) p
@@ -119,7 +118,7 @@ IsLower-join : (u : Setup) (sp : Span) (x : List Entry) (p : ℕ) (a : Ages) →
 IsLower-join u sp x p a l s needed = record {
   size = length-set x p (Present (join_into a (at x p))) ∙ s.size;
   starts = lies_still x p a Empty (number_of (followed sp) (start_context u sp)) inside s.starts;
-  least = λ f c j m. least f c j m (same_or_not j p);
+  least = λ f c j m. least f c j m (cases_eq j p);
 } where
   inside : p < length x
   inside = rw s.size l
@@ -225,17 +224,13 @@ known_small b n = on (nat_le n b) refl where
   on true e = rw e e
   on false e = rw e refl
 
-three : (a b c : Bool) → a ≡ true → b ≡ true → c ≡ true → (a && (b && c)) ≡ true
-three a b c h k l = rw (h, k, l) refl
-
 start_below : (u : Setup) (sp : Span) → number_of (followed sp) (start_context u sp) < (contexts_of sp)
 unfolding start_context
 start_below u sp = on (get_or u.machines sp.machine None) where
   on : (m : Option MachineSetup) → number_of (followed sp) (started m u sp) < (contexts_of sp)
   on None = omega (arith, number_of-context_at (followed sp) 0, contexts_some (followed sp))
   on (Some s) =
-      let below : s.start < 32 = s.start_in_memory in
-      number_below (followed sp) (started (Some s) u sp) (three (nat_lt s.start 32) _ _ (grind (arith, nat_tests)) (known_small (followed sp).x s.x) (known_small (followed sp).y s.y))
+      number_below (followed sp) (started (Some s) u sp) (and_from (nat_lt s.start 32) _ (lt-ltb s.start 32 s.start_in_memory) (and_from _ _ (known_small (followed sp).x s.x) (known_small (followed sp).y s.y)))
 
 -- a grid without rows, with the start
 abbrev start_alone : Setup → Span → List Entry → List Entry
@@ -245,7 +240,7 @@ IsLower-start : (u : Setup) (sp : Span) (x : List Entry) → length x ≡ (conte
 IsLower-start u sp x size none = record {
   size = length-set x (number_of (followed sp) (start_context u sp)) (Present Empty) ∙ size;
   starts = rw (at_same x (number_of (followed sp) (start_context u sp)) (Present Empty) inside) tt;
-  least = λ f c i m. least f c i m (same_or_not i (number_of (followed sp) (start_context u sp)));
+  least = λ f c i m. least f c i m (cases_eq i (number_of (followed sp) (start_context u sp)));
 } where
   inside : number_of (followed sp) (start_context u sp) < length x
   inside = rw size (start_below u sp)

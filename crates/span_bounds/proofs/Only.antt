@@ -1,6 +1,6 @@
 -- There is one least closed table: two lie within each other, and a table is known by its entries.
 use Rattle.std.proofs.Common.{◌≡◌, ◌≢◌, ℕ, ◌+◌, ◌<◌, ◌≤◌, ◌⊎◌, List, [], ◌∷◌, refl, sym, ap, ◌∙◌, subst, inl, inr, arith}
-use Rattle.std.proofs.lemmas.Bool.{cases_lt}
+use Rattle.std.proofs.lemmas.Bool.{cases_lt, cases_eq, eq-eqb, ne_eqb}
 use Rattle.pin_matrix.specs.Followed.{followed}
 use Rattle.pin_matrix.specs.declared.setup.Setup.{Setup}
 use Rattle.pin_matrix.specs.declared.span.Span.{Span}
@@ -12,17 +12,11 @@ use Rattle.span_bounds.specs.declared.row.Row.{Row}
 use Rattle.span_bounds.specs.Numbers.{number_of, context_at}
 use Rattle.span_bounds.specs.Tables.{LiesAt, entry_at, IsTableFrom, IsTable, LiesWithin, IsLeast}
 use Rattle.span_bounds.proofs.Placing.{number_of-context_at, context_at-number_of}
-use Rattle.span_bounds.proofs.Coming.{same_or_not}
 use Rattle.span_bounds.proofs.Ends.{row_at}
 use Rattle.span_bounds.proofs.Filled.{both_inside}
-use Rattle.span_bounds.proofs.Firsts.{same_number, other_number, absent_before}
+use Rattle.span_bounds.proofs.Firsts.{absent_before}
+use Rattle.span_bounds.proofs.Least.{no_row, same_ages}
 use Rattle.pin_matrix.specs.declared.assume.Follow.{Follow}
-
-no_row : {a : Ages} → Absent ≡ Present a → ⊥
-no_row e = cc
-
-same_ages : {a b : Ages} → Present a ≡ Present b → a ≡ b
-same_ages e = cc
 
 same_row : (k j : Context) (a b : Ages) → k ≡ j → a ≡ b → ◌≡◌ {A = Row} (record { context = k; ages = a }) (record { context = j; ages = b })
 same_row k j a b p q = rw (p, q) refl
@@ -32,10 +26,10 @@ same_list x y xs ys p q = rw (p, q) refl
 
 -- the entry of the first row
 first_entry : (far : Follow) (x : Row) (xs : List Row) → entry_at far (x ∷ xs) (number_of far x.context) ≡ Present x.ages
-first_entry far x xs = rw (same_number (number_of far x.context) (number_of far x.context) refl) refl
+first_entry far x xs = rw (eq-eqb (number_of far x.context) (number_of far x.context) refl) refl
 
 later_entry : (far : Follow) (x : Row) (xs : List Row) (i : ℕ) → number_of far x.context ≢ i → entry_at far (x ∷ xs) i ≡ entry_at far xs i
-later_entry far x xs i d = rw (other_number (number_of far x.context) i d) refl
+later_entry far x xs i d = rw (ne_eqb (number_of far x.context) i d) refl
 
 -- no entry comes before the first row
 early_entry : (far : Follow) (m : ℕ) (y : Row) (ys : List Row) (i : ℕ) → IsTableFrom far m (y ∷ ys) → i < number_of far y.context → entry_at far (y ∷ ys) i ≡ Absent
@@ -63,7 +57,7 @@ same_rows far m n (x ∷ xs) (y ∷ ys) s t e = same_list x y xs ys head (same_r
   head = same_row x.context y.context x.ages y.ages context ages
 
   tails : (i : ℕ) → entry_at far xs i ≡ entry_at far ys i
-  tails i = on (same_or_not i (number_of far x.context)) where
+  tails i = on (cases_eq i (number_of far x.context)) where
     on : (i ≡ number_of far x.context) ⊎ (i ≢ number_of far x.context) → entry_at far xs i ≡ entry_at far ys i
     on (inl q) = absent_before far (number_of far x.context + 1) i xs s.1.1 (omega arith) ∙ sym (absent_before far (number_of far y.context + 1) i ys t.1.1 (omega (arith, number)))
     on (inr d) = sym (later_entry far x xs i (λ q. d (sym q))) ∙ e i ∙ later_entry far y ys i (λ q. d (sym q ∙ sym number))

@@ -1,6 +1,7 @@
 -- A context and its number.
 use Rattle.std.proofs.Common.{◌≡◌, ℕ, ◌+◌, ◌*◌, ◌/◌, ◌%◌, ◌<◌, ◌≤◌, ◌==◌, Bool, true, false, cond, nat_lt, ◌&&◌, Option, Some, None, refl, arith}
 use Rattle.std.proofs.Math.Nat.{div-lt_iff_lt-mul, div-add-mod}
+use Rattle.std.proofs.lemmas.Bool.{and_parts}
 use Rattle.std.proofs.lemmas.Bool.Decides.{nat_tests}
 use Rattle.std.proofs.lemmas.Nat.{div-mul-add, mod-mul-add, mul-add-lt}
 use Rattle.pin_matrix.specs.declared.assume.Follow.{Follow}
@@ -86,13 +87,7 @@ level_of true = refl
 level_of false = refl
 
 pub and_three : (a b c : Bool) → (a && (b && c)) ≡ true → (a ≡ true) × ((b ≡ true) × (c ≡ true))
-and_three true true c h = (refl, (refl, h))
-and_three true false c h = absurd (bad h) where
-  bad : false ≡ true → ⊥
-  bad e = cc
-and_three false b c h = absurd (bad h) where
-  bad : false ≡ true → ⊥
-  bad e = cc
+and_three a b c h = let p = and_parts a (b && c) h in (p.0, and_parts b c p.1)
 
 -- a context in range is the one at its number
 pub context_at-number_of : (d : Follow) (k : Context) → is_placed d k.address k.x k.y ≡ true → context_at d (number_of d k) ≡ k

@@ -1,6 +1,7 @@
 -- The first sweep keeps what it says of its grid.
 use Rattle.std.proofs.Common.{◌≡◌, ◌≢◌, ℕ, ◌+◌, ◌*◌, ◌<◌, ◌≤◌, ◌⊎◌, Bool, true, false, MatchBool, List, [], ◌∷◌, ◌++◌, length, get_or, take, replicate, refl, sym, ◌∙◌, subst, inl, inr, arith}
 use Rattle.std.proofs.Math.ListN.{set}
+use Rattle.std.proofs.lemmas.Bool.{cases_eq}
 use Rattle.std.proofs.lemmas.List.{length-set, get_or-set_same, get_or-set_other, get_or-replicate, length-replicate, length_push}
 use Rattle.std.proofs.lemmas.List.Folds.{sum_by-replicate}
 use Rattle.std.proofs.lemmas.List.Sums.{sum_by-set}
@@ -10,9 +11,9 @@ use Rattle.pin_matrix.specs.declared.span.Span.{Span}
 use Rattle.span_step.specs.declared.ages.Ages.{Ages}
 use Rattle.span_step.specs.declared.ages.Ages.TheVariants.{Empty, Between}
 use Rattle.span_step.specs.declared.stepped.Next.{Next}
-use Rattle.span_step.specs.Contexts.{IsInside, is_open}
+use Rattle.span_step.specs.Contexts.{is_open}
 use Rattle.span_step.specs.Laws.{AreAlike, GoesLike, AreInside, OpenAlike}
-use Rattle.span_step.proofs.Wider.{IsNarrower-context_steps}
+use Rattle.span_step.proofs.Wider.{IsNarrower-context_steps, open_inside}
 use Rattle.span_step.proofs.Alike.{OpenAlike-context_steps}
 use Rattle.span_bounds.specs.declared.entry.Entry.{Entry}
 use Rattle.span_bounds.specs.declared.entry.Entry.TheVariants.{Absent, Present}
@@ -20,24 +21,19 @@ use Rattle.span_bounds.specs.Numbers.{number_of, contexts, contexts_of}
 use Rattle.span_bounds.specs.Tables.{LiesAt, start_context}
 use Rattle.span_bounds.specs.Edges.{at, nexts_at, spot, AllLie, IsClosedAt, Among}
 use Rattle.span_bounds.specs.Reach.{IsHeldBy, holds, Below, AreHeld, zeroed, rises_left, room, IsNeeded, Sweep, SweepAtRow, Raised}
-use Rattle.span_bounds.proofs.Coming.{EachNext-at, EachNext-more, EachNext-map, Among-push, Among-pop, same_or_not}
+use Rattle.span_bounds.proofs.Coming.{EachNext-at, EachNext-more, EachNext-map, Among-push, Among-pop}
 use Rattle.pin_matrix.specs.declared.assume.Follow.{Follow}
-
-inside_open : (a b : Ages) → IsInside a b → is_open a ≡ true → is_open b ≡ true
-inside_open Empty b h e = cc
-inside_open (Between lo hi) Empty h e = absurd h
-inside_open (Between lo hi) (Between low high) h e = refl
 
 -- ages that are open no more than others which lie at an entry are held by it
 holds_by : (a b : Ages) (e : Entry) → (is_open a ≡ true → is_open b ≡ true) → LiesAt b e → IsHeldBy a e
 holds_by a b Absent k h = h
-holds_by a b (Present c) k h = λ o. inside_open b c h (k o)
+holds_by a b (Present c) k h = λ o. open_inside b c h (k o)
 
 follows_inside : (far : Follow) (f : ℕ → Entry) (ms ns : List Next) → AreAlike (GoesLike AreInside) ms ns → AllLie far f ns → AreHeld far f ms
 follows_inside far f [] ns h l = tt
 follows_inside far f (m ∷ ms) [] h l = absurd h
 follows_inside far f (m ∷ ms) (n ∷ ns) h l =
-    (rw h.0.context (holds_by m.ages n.ages _ (inside_open _ _ h.0.ages) l.0), follows_inside far f ms ns h.1 l.1)
+    (rw h.0.context (holds_by m.ages n.ages _ (open_inside _ _ h.0.ages) l.0), follows_inside far f ms ns h.1 l.1)
 
 open_with : (a b : Bool) → a ≡ b → a ≡ true → b ≡ true
 open_with a b e h = sym e ∙ h
@@ -108,7 +104,7 @@ at_same g i e l = get_or-set_same g i e Absent l
 
 -- at each number the entry is the old one or lies above it
 below_set : (g : List Entry) (i j : ℕ) (e : Entry) → i < length g → Below (at g i) e → Below (at g j) (at (set g i e) j)
-below_set g i j e l b = on (same_or_not j i) where
+below_set g i j e l b = on (cases_eq j i) where
   on : (j ≡ i) ⊎ (j ≢ i) → Below (at g j) (at (set g i e) j)
   on (inl q) = rw (q, at_same g i e l) b
   on (inr n) = rw (at_other g i j e n) (Below-refl (at g j))
@@ -131,8 +127,8 @@ module _ (u : Setup) (sp : Span) (g : List Entry) (w : List ℕ) (s : Sweep u sp
     size = length-set g i (Present (zeroed a)) ∙ s.size;
     near = λ j h. elim h [ inl e ↦ rw e l | inr m ↦ s.near j m ];
     begins = IsHeldBy-below Empty _ _ s.begins (raised_below _);
-    steps = λ j b m q. steps j b m q (same_or_not j i);
-    least = λ f c j m. least f c j m (same_or_not j i);
+    steps = λ j b m q. steps j b m q (cases_eq j i);
+    least = λ f c j m. least f c j m (cases_eq j i);
   } where
     steps : (j : ℕ) (b : Ages) → j < (contexts_of sp) → at (set g i (Present (zeroed a))) j ≡ Present b → (j ≡ i) ⊎ (j ≢ i) → Among j (i ∷ w) ⊎ AreHeld (followed sp) (at (set g i (Present (zeroed a)))) (nexts_at u sp j b)
     steps j b m q (inl e) = inl (inl e)
@@ -174,7 +170,7 @@ SweepAtRow-raised u sp g g' w w' i a k d l m below v r = on (holds n.ages (at g 
     held = EachNext-more (λ x. IsHeldBy x.ages (at (set g (spot (followed sp) n) (Present (zeroed n.ages))) (spot (followed sp) x))) _ k d m
         (AreHeld-raised u sp g (i ∷ w) v.sweep (spot (followed sp) n) n.ages below q needed _ v.held)
         (rw (at_same g (spot (followed sp) n) (Present (zeroed n.ages)) (rw v.sweep.size below)) (holds_zeroed n.ages));
-    same = same (same_or_not i (spot (followed sp) n)) v.same;
+    same = same (cases_eq i (spot (followed sp) n)) v.same;
   }) where
     needed : IsNeeded u sp (spot (followed sp) n) n.ages
     needed = IsNeeded-next u sp i a k d l v.row m
@@ -286,8 +282,8 @@ Sweep-starts u sp g g' w w' i e o q l r =
       size = length-set g i (Present Empty) ∙ full;
       near = λ j h. elim h [ inl m ↦ rw m l | inr m ↦ absurd m ];
       begins = rw (← q, at_same g i (Present Empty) inside) (λ x. x);
-      steps = λ j b m p. steps j b m p (same_or_not j i);
-      least = λ f c j m. least f c j m (same_or_not j i);
+      steps = λ j b m p. steps j b m p (cases_eq j i);
+      least = λ f c j m. least f c j m (cases_eq j i);
     }) where
       full_inside : i < length g
       full_inside = rw (e, length-replicate (contexts_of sp) Absent) l

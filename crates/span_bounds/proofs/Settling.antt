@@ -1,6 +1,7 @@
 -- The fourth sweep keeps what it says of its rows.
 use Rattle.std.proofs.Common.{◌≡◌, ◌≢◌, ℕ, zero, suc, ◌+◌, ◌*◌, ◌-◌, ◌<◌, ◌≤◌, ◌⊎◌, Bool, true, false, not, ◌||◌, MatchBool, List, [], ◌∷◌, length, get_or, take, sum_by, refl, sym, ap, ◌∙◌, subst, inl, inr, add-zero, arith}
 use Rattle.std.proofs.Math.ListN.{set}
+use Rattle.std.proofs.lemmas.Bool.{cases_eq, both_ways}
 use Rattle.std.proofs.lemmas.List.{length-set, take_more, take_all}
 use Rattle.std.proofs.lemmas.List.Sums.{sum_by_push}
 use Rattle.pin_matrix.specs.Followed.{followed}
@@ -19,7 +20,7 @@ use Rattle.span_bounds.specs.Sums.{one_if, open_at, join_into}
 use Rattle.span_bounds.specs.Queues.{IsMore, Queued, ComesNext}
 use Rattle.span_bounds.specs.Take.{IsFresh, IsTaken, IsSettled, ages_or_none}
 use Rattle.span_bounds.specs.Settle.{lies, is_single, one_wide, one_waiting, slack, ease_left, Eased, BegunAt, Settle, SettleRow, Begun, IsBegun, IsSettling, SettlesRow}
-use Rattle.span_bounds.proofs.Coming.{EachNext-at, EachNext-more, same_or_not}
+use Rattle.span_bounds.proofs.Coming.{EachNext-at, EachNext-more, below_or}
 use Rattle.span_bounds.proofs.Reaching.{at_same, at_other}
 use Rattle.span_bounds.proofs.Joins.{joined_at, lies_at_join, lies_still, closed_lies}
 use Rattle.span_bounds.proofs.Takes.{all_still}
@@ -28,12 +29,6 @@ use Rattle.span_bounds.proofs.Slack.{lies_from, table_slack, table_wide, table_w
 use Rattle.span_bounds.proofs.Capped.{IsFresh-join, reach_holds, left_capped}
 use Rattle.span_bounds.specs.Numbers.{contexts_of}
 
-clash : {b : Bool} → b ≡ true → b ≡ false → ⊥
-clash p q = cc
-
-below_or : (i n : ℕ) → i < n + 1 → (i < n) ⊎ (i ≡ n)
-below_or i n l = elim (same_or_not i n) [ inl e ↦ inr e | inr d ↦ inl (omega arith) ]
-
 waiting_more : (l : List Entry) (n : ℕ) → n < length l → sum_by one_waiting (take (n + 1) l) ≡ sum_by one_waiting (take n l) + one_waiting (at l n)
 waiting_more l n i = rw (take_more l n Absent i) (sum_by_push one_waiting (take n l) (at l n))
 
@@ -41,7 +36,7 @@ waiting_more l n i = rw (take_more l n Absent i) (sum_by_push one_waiting (take 
 pub Begun-starts : (u : Setup) (sp : Span) (l x : List Entry) (w : List ℕ) (t : IsTaken u sp l x) → w ≡ [] → Begun u sp t.reach l x w 0
 Begun-starts u sp l x w t e = rw e (record { keeps = t.keeps; near = λ i h. absurd h; done = t.done; there = λ i m o. there i m o (at l i) refl; few = omega arith }) where
   there : (i : ℕ) → i < (contexts_of sp) → open_at (at l i) ≡ true → (e : Entry) → at l i ≡ e → LiesAt Empty (at x i)
-  there i m o Absent q = absurd (clash o (rw q refl))
+  there i m o Absent q = absurd (both_ways _ (rw q refl) o)
   there i m o (Present c) q = t.keeps.rows i c m (sym (t.left.left i m o) ∙ q)
 
 -- one row more
@@ -54,7 +49,7 @@ Begun-step u sp l x x0 x' w w' n t b s h = on (open_at (at l n)) refl h where
   inside_x = rw s.keeps.under.size b
 
   held_there : (e : Entry) → at l n ≡ e → open_at e ≡ true → IsHeldBy (Between (cap_of u sp) (cap_of u sp)) (at t.reach n)
-  held_there Absent q o = absurd (clash o refl)
+  held_there Absent q o = absurd (both_ways _ refl o)
   held_there (Present c) q o = rw (sym (t.left.left n b (rw q o)) ∙ q) (λ y. o)
 
   one_more : (z : Bool) → open_at (at l n) ≡ z → sum_by one_waiting (take (n + 1) l) ≡ sum_by one_waiting (take n l) + one_if z
@@ -63,14 +58,14 @@ Begun-step u sp l x x0 x' w w' n t b s h = on (open_at (at l n)) refl h where
   on : (z : Bool) → open_at (at l n) ≡ z → MatchBool z ((x' ≡ joined_at x n (Between (cap_of u sp) (cap_of u sp))) × MatchBool (is_single (at x' n)) (w' ≡ w) (IsMore n w w')) ((x' ≡ x) × (w' ≡ w)) → Begun u sp t.reach l x' w' (n + 1)
   on true o r = by (is_single (at x' n)) r.1 where
     done : (i : ℕ) (a : Ages) → i < (contexts_of sp) → open_at (at l i) ≡ false → at (joined_at x n (Between (cap_of u sp) (cap_of u sp))) i ≡ Present a → (i ≡ n) ⊎ (i ≢ n) → AllLie (followed sp) (at (joined_at x n (Between (cap_of u sp) (cap_of u sp)))) (nexts_at u sp i a)
-    done i a m p q (inl e) = absurd (clash o (rw e at p))
+    done i a m p q (inl e) = absurd (both_ways _ (rw e at p) o)
     done i a m p q (inr d) = all_still (followed sp) x n (Between (cap_of u sp) (cap_of u sp)) _ inside_x (s.done i a m p (rw (at_other x n i (Present (join_into (Between (cap_of u sp) (cap_of u sp)) (at x n))) d) at q))
 
     joined : ((i : ℕ) → Among i w' → i < (contexts_of sp)) → length w' ≤ length w + 1 → Begun u sp t.reach l x' w' (n + 1)
     joined near size = rw r.0 (record {
       keeps = IsFresh-join u sp t.reach x n (Between (cap_of u sp) (cap_of u sp)) b s.keeps (λ f c. left_capped u sp l x0 t f c n b o) (held_there (at l n) refl o);
       near = near;
-      done = λ i a m p q. done i a m p q (same_or_not i n);
+      done = λ i a m p q. done i a m p q (cases_eq i n);
       there = λ i m p. lies_still x n (Between (cap_of u sp) (cap_of u sp)) Empty i inside_x (s.there i m p);
       few = omega (arith, s.few, one_more true o, size);
     })
@@ -170,7 +165,7 @@ IsSettling-skip u sp l x w rest i q t = record {
     keeps = s.keeps;
     size = s.size;
     near = λ j h. s.near j (inr h);
-    queued = λ j c k o. elim (s.queued j c k o) [ inl e ↦ absurd (clash o (rw (← e) at q)) | inr h ↦ h ];
+    queued = λ j c k o. elim (s.queued j c k o) [ inl e ↦ absurd (both_ways _ (rw (← e) at q) o) | inr h ↦ h ];
     done = s.done;
     there = s.there;
     few = omega (arith, s.few);
@@ -188,13 +183,13 @@ SettlesRow-begins u sp l l' x w rest i a b o e own t = rw e (record {
     keeps = s.keeps;
     size = length-set l i Absent ∙ s.size;
     near = λ j h. s.near j (inr h);
-    queued = λ j c k p. queued j c k p (same_or_not j i);
+    queued = λ j c k p. queued j c k p (cases_eq j i);
     finished = λ j c m p d q. s.done j c m (rw (at_other l i j Absent d) at p) q;
     own = inl own;
     held = tt;
     needed = λ f c. rw own at (s.keeps.under.least f c i b);
     reached = rw own at (s.keeps.under.within i b);
-    there = λ j m p. there j m p (same_or_not j i);
+    there = λ j m p. there j m p (cases_eq j i);
     few = omega (arith, s.few, fewer_wait l i inside o);
   };
 }) where
@@ -205,11 +200,11 @@ SettlesRow-begins u sp l l' x w rest i a b o e own t = rw e (record {
   inside = rw s.size b
 
   there : (j : ℕ) → j < (contexts_of sp) → open_at (at (set l i Absent) j) ≡ true → (j ≡ i) ⊎ (j ≢ i) → LiesAt Empty (at x j)
-  there j c p (inl d) = absurd (clash p (rw (d, at_same l i Absent inside) refl))
+  there j c p (inl d) = absurd (both_ways _ (rw (d, at_same l i Absent inside) refl) p)
   there j c p (inr d) = s.there j c (rw (at_other l i j Absent d) at p)
 
   queued : (j : ℕ) → j < (contexts_of sp) → j < rest → open_at (at (set l i Absent) j) ≡ true → (j ≡ i) ⊎ (j ≢ i) → Among j w
-  queued j c k p (inl d) = absurd (clash p (rw (d, at_same l i Absent inside) refl))
+  queued j c k p (inl d) = absurd (both_ways _ (rw (d, at_same l i Absent inside) refl) p)
   queued j c k p (inr d) = elim (s.queued j c k (rw (at_other l i j Absent d) at p)) [ inl e ↦ absurd (d e) | inr h ↦ h ]
 
 -- a row that waits has these ages
@@ -270,12 +265,12 @@ SettlesRow-step u sp l l' x x' w w' rest i a items k n ie lk q b bi t r = on (li
       size = size;
       near = near;
       queued = queued;
-      finished = λ j c e f d g. finished j c e f d g (same_or_not j (spot (followed sp) n));
-      own = own (same_or_not i (spot (followed sp) n)) s.own;
+      finished = λ j c e f d g. finished j c e f d g (cases_eq j (spot (followed sp) n));
+      own = own (cases_eq i (spot (followed sp) n)) s.own;
       held = held1;
       needed = s.needed;
       reached = s.reached;
-      there = λ j m o. there j m o (same_or_not j (spot (followed sp) n));
+      there = λ j m o. there j m o (cases_eq j (spot (followed sp) n));
       few = few;
     };
   } where
@@ -284,7 +279,7 @@ SettlesRow-step u sp l l' x x' w w' rest i a items k n ie lk q b bi t r = on (li
     there j c e (inr h) = lies_still x (spot (followed sp) n) n.ages Empty j inside_x (s.there j c (rw (same j h) at e))
 
     finished : (j : ℕ) (c : Ages) → j < (contexts_of sp) → open_at (at m j) ≡ false → (j ≡ i → ⊥) → at (joined_at x (spot (followed sp) n) n.ages) j ≡ Present c → (j ≡ spot (followed sp) n) ⊎ (j ≢ spot (followed sp) n) → AllLie (followed sp) (at (joined_at x (spot (followed sp) n) n.ages)) (nexts_at u sp j c)
-    finished j c e f d g (inl h) = absurd (clash o (rw h at f))
+    finished j c e f d g (inl h) = absurd (both_ways _ (rw h at f) o)
     finished j c e f d g (inr h) = all_still (followed sp) x (spot (followed sp) n) n.ages _ inside_x (s.finished j c e (rw (same j h) at f) d (other_row j c h g))
 
     own : (i ≡ spot (followed sp) n) ⊎ (i ≢ spot (followed sp) n) → (at x i ≡ Present a) ⊎ (open_at (at l i) ≡ true) → (at (joined_at x (spot (followed sp) n) n.ages) i ≡ Present a) ⊎ (open_at (at m i) ≡ true)
@@ -316,13 +311,13 @@ SettlesRow-step u sp l l' x x' w w' rest i a items k n ie lk q b bi t r = on (li
 
     one_more : (p o : Bool) → is_single (at x (spot (followed sp) n)) ≡ p → open_at (at l (spot (followed sp) n)) ≡ o → (p || not o) ≡ true → sum_by one_waiting l + sum_by one_wide x + 1 ≤ sum_by one_waiting (set l (spot (followed sp) n) (Present (Between 0 0))) + sum_by one_wide (joined_at x (spot (followed sp) n) n.ages)
     one_more true o e f h = omega (arith, table_wider x (spot (followed sp) n) n.ages inside_x e z, still_wait l (spot (followed sp) n) inside_l)
-    one_more false true e f h = absurd (clash h refl)
+    one_more false true e f h = absurd (both_ways _ refl h)
     one_more false false e f h = omega (arith, kept, more_wait l (spot (followed sp) n) inside_l f)
 
     waits : (p o : Bool) → (p || not o) ≡ false → o ≡ true
-    waits true o h = absurd (clash refl h)
+    waits true o h = absurd (both_ways _ h refl)
     waits false true h = refl
-    waits false false h = absurd (clash refl h)
+    waits false false h = absurd (both_ways _ h refl)
 
     by : (y : Bool) → (is_single (at x (spot (followed sp) n)) || not (open_at (at l (spot (followed sp) n)))) ≡ y → MatchBool y ((l' ≡ set l (spot (followed sp) n) (Present (Between 0 0))) × IsMore (spot (followed sp) n) w w') ((l' ≡ l) × (w' ≡ w)) → SettlesRow u sp l' x' w' rest i a (take (k + 1) items)
     by false y c = rw (v.0, c.0, c.1) (joined l w s.size (waits _ _ y) (λ j d. refl) s.near s.queued (omega (arith, s.few, kept)))
@@ -331,7 +326,7 @@ SettlesRow-step u sp l l' x x' w w' rest i a items k n ie lk q b bi t r = on (li
         (rw (at_same l (spot (followed sp) n) (Present (Between 0 0)) inside_l) refl)
         (λ j d. at_other l (spot (followed sp) n) j (Present (Between 0 0)) d)
         (λ j h. elim (c.1.of_these j h) [ inl e ↦ rw e b | inr m ↦ s.near j m ])
-        (λ j m f o. queued j m f o (same_or_not j (spot (followed sp) n)))
+        (λ j m f o. queued j m f o (cases_eq j (spot (followed sp) n)))
         (omega (arith, s.few, one_more _ _ refl refl y, c.1.size))) where
           queued : (j : ℕ) → j < (contexts_of sp) → j < rest → open_at (at (set l (spot (followed sp) n) (Present (Between 0 0))) j) ≡ true → (j ≡ spot (followed sp) n) ⊎ (j ≢ spot (followed sp) n) → Among j w'
           queued j m f o (inl e) = c.1.all j (inl e)
@@ -347,7 +342,7 @@ SettlesRow-ends u sp l x w rest i a t = record {
     size = s.size;
     near = s.near;
     queued = s.queued;
-    done = λ j c m o e. done j c m o e (same_or_not j i) s.own;
+    done = λ j c m o e. done j c m o e (cases_eq j i) s.own;
     there = s.there;
     few = s.few;
   };
@@ -357,7 +352,7 @@ SettlesRow-ends u sp l x w rest i a t = record {
 
   done : (j : ℕ) (c : Ages) → j < (contexts_of sp) → open_at (at l j) ≡ false → at x j ≡ Present c → (j ≡ i) ⊎ (j ≢ i) → (at x i ≡ Present a) ⊎ (open_at (at l i) ≡ true) → AllLie (followed sp) (at x) (nexts_at u sp j c)
   done j c m o e (inr d) y = s.finished j c m o d e
-  done j c m o e (inl d) (inr y) = absurd (clash y (rw d at o))
+  done j c m o e (inl d) (inr y) = absurd (both_ways _ (rw d at o) y)
   done j c m o e (inl d) (inl y) =
       let e' : at x i ≡ Present c = rw d at e in
       let same : a ≡ c = cc in rw (d, ← same) s.held

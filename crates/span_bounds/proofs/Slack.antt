@@ -1,7 +1,7 @@
 -- How often the entries of a table may still be widened, and how many rows wait.
 use Rattle.std.proofs.Common.{◌≡◌, ℕ, zero, suc, ◌+◌, ◌-◌, ◌<◌, ◌≤◌, ◌⊎◌, min, max, nat_le, nat_lt, Bool, true, false, ◌&&◌, List, [], ◌∷◌, length, take, sum_by, refl, inl, inr, arith}
 use Rattle.std.proofs.Math.ListN.{set}
-use Rattle.std.proofs.lemmas.Bool.{cases_lt}
+use Rattle.std.proofs.lemmas.Bool.{cases_lt, both_ways, leb-true, and_parts}
 use Rattle.std.proofs.lemmas.Bool.Decides.{nat_tests}
 use Rattle.std.proofs.lemmas.List.Sums.{sum_by-set, sum_by-cons}
 use Rattle.span_step.specs.declared.ages.Ages.{Ages}
@@ -15,22 +15,12 @@ use Rattle.span_bounds.proofs.Joins.{joined_at}
 use Rattle.span_step.specs.Laws.{AreUpTo}
 use Rattle.span_bounds.specs.Settle.{lies, is_single, one_wide, one_waiting, slack}
 
-clash : {b : Bool} → b ≡ true → b ≡ false → ⊥
-clash p q = cc
-
-and_both : (a b : Bool) → (a && b) ≡ true → (a ≡ true) × (b ≡ true)
-and_both true b e = (refl, e)
-and_both false b e = cc
-
-le_from : (m n : ℕ) → nat_le m n ≡ true → m ≤ n
-le_from m n e = grind (arith, nat_tests)
-
 -- the test says that they lie
 pub lies_from : (a : Ages) (e : Entry) → lies a e ≡ true → LiesAt a e
-lies_from a Absent h = absurd (clash h refl)
+lies_from a Absent h = absurd (both_ways _ refl h)
 lies_from Empty (Present b) h = tt
-lies_from (Between lo hi) (Present Empty) h = absurd (clash h refl)
-lies_from (Between lo hi) (Present (Between low high)) h = let p = and_both (nat_le low lo) (nat_le hi high) h in (le_from low lo p.0, le_from hi high p.1)
+lies_from (Between lo hi) (Present Empty) h = absurd (both_ways _ refl h)
+lies_from (Between lo hi) (Present (Between low high)) h = let p = and_parts (nat_le low lo) (nat_le hi high) h in (leb-true low lo p.0, leb-true hi high p.1)
 
 wider_by : (c lo hi low high : ℕ) → lo ≤ c → hi ≤ c → (nat_le low lo && nat_le hi high) ≡ false → min lo low + (c - max hi high) + 1 ≤ low + (c - high)
 wider_by c lo hi low high l h e = on (cases_lt lo low) (cases_lt high hi) where
@@ -38,7 +28,7 @@ wider_by c lo hi low high l h e = on (cases_lt lo low) (cases_lt high hi) where
   on (inl p) (inl q) = omega arith
   on (inl p) (inr q) = omega arith
   on (inr p) (inl q) = omega arith
-  on (inr p) (inr q) = absurd (clash both e) where
+  on (inr p) (inr q) = absurd (both_ways _ e both) where
     both : (nat_le low lo && nat_le hi high) ≡ true
     both = let r : nat_le low lo ≡ true = grind (arith, nat_tests) in let s : nat_le hi high ≡ true = grind (arith, nat_tests) in rw (r, s) refl
 
@@ -46,7 +36,7 @@ wider_by c lo hi low high l h e = on (cases_lt lo low) (cases_lt high hi) where
 less_slack : (c : ℕ) (a : Ages) (e : Entry) → AreUpTo c a → lies a e ≡ false → slack c (Present (join_into a e)) + 1 ≤ slack c e
 less_slack c Empty Absent u h = omega arith
 less_slack c (Between lo hi) Absent u h = omega (arith, u.0)
-less_slack c Empty (Present b) u h = absurd (clash refl h)
+less_slack c Empty (Present b) u h = absurd (both_ways _ h refl)
 less_slack c (Between lo hi) (Present Empty) u h = omega (arith, u.0)
 less_slack c (Between lo hi) (Present (Between low high)) u h = wider_by c lo hi low high u.0 u.1 h
 
@@ -68,9 +58,9 @@ wide_kept (Between lo hi) (Present (Between low high)) = on (nat_lt low high) re
 
 -- and one more where there was one age alone
 wide_more : (a : Ages) (e : Entry) → is_single e ≡ true → lies a e ≡ false → one_wide e + 1 ≤ one_wide (Present (join_into a e))
-wide_more a Absent s h = absurd (clash s refl)
-wide_more a (Present Empty) s h = absurd (clash s refl)
-wide_more Empty (Present (Between low high)) s h = absurd (clash refl h)
+wide_more a Absent s h = absurd (both_ways _ refl s)
+wide_more a (Present Empty) s h = absurd (both_ways _ refl s)
+wide_more Empty (Present (Between low high)) s h = absurd (both_ways _ h refl)
 wide_more (Between lo hi) (Present (Between low high)) s h =
     let same : low ≡ high = grind (arith, nat_tests) in
     let none : nat_lt low high ≡ false = grind (arith, nat_tests) in
@@ -79,7 +69,7 @@ wide_more (Between lo hi) (Present (Between low high)) s h =
       more : low ≡ high → (lo < low) ⊎ (low ≤ lo) → (high < hi) ⊎ (hi ≤ high) → nat_lt (min lo low) (max hi high) ≡ true
       more e (inl p) q = let l : min lo low < max hi high = omega (arith, p, e) in grind (arith, nat_tests)
       more e (inr p) (inl q) = let l : min lo low < max hi high = omega (arith, q, e) in grind (arith, nat_tests)
-      more e (inr p) (inr q) = absurd (clash both h) where
+      more e (inr p) (inr q) = absurd (both_ways _ h both) where
         both : (nat_le low lo && nat_le hi high) ≡ true
         both = let r : nat_le low lo ≡ true = grind (arith, nat_tests) in let t : nat_le hi high ≡ true = grind (arith, nat_tests) in rw (r, t) refl
 

@@ -2,7 +2,7 @@
 use Rattle.std.proofs.Common.{◌≡◌, ◌≢◌, ℕ, zero, suc, ◌+◌, ◌-◌, ◌<◌, ◌≤◌, ◌==◌, ◌⊎◌, Bool, true, false, ◌&&◌, if◌then◌else◌, MatchBool, List, [], ◌∷◌, ◌++◌, length, get_or, take, drop, slice_index, sum_by, refl, sym, ap, ◌∙◌, subst, inl, inr, add-zero, arith}
 use Rattle.std.proofs.Math.ListN.{set}
 use Rattle.std.proofs.lemmas.Bool.Decides.{nat_tests}
-use Rattle.std.proofs.lemmas.Bool.{cases_lt, and_parts, true_from_ne_false}
+use Rattle.std.proofs.lemmas.Bool.{cases_lt, and_parts, true_from_ne_false, cases_eq, both_ways, eqb-true, eq-eqb}
 use Rattle.std.proofs.lemmas.List.{length-set, get_or-set_same, get_or-set_other, drop_more, length_push, get_or_past, take_more, take_all}
 use Rattle.std.proofs.lemmas.List.Sums.{sum_by-set, sum_by_push}
 use Rattle.pin_matrix.specs.Followed.{followed}
@@ -22,16 +22,13 @@ use Rattle.span_bounds.specs.Reach.{IsHeldBy, Below, AreHeld, IsReach}
 use Rattle.span_bounds.specs.Sums.{total, passages, waits, waits_by, one_if, open_at, join_into}
 use Rattle.span_bounds.specs.Count.{LieBut, Count}
 use Rattle.span_bounds.specs.Take.{Take, Taking, IsTaken, IsTaking, TakesRow, AreReady, Passed, work_left, is_ready, ages_or_none, PassToLeft, unmet}
-use Rattle.span_bounds.proofs.Coming.{EachNext-more, EachNext-map, EachNext-both, same_or_not, Among-push, Among-pop}
+use Rattle.span_bounds.proofs.Coming.{EachNext-more, EachNext-map, EachNext-both, Among-push, Among-pop, below_or}
 use Rattle.span_bounds.proofs.Reaching.{at_same, at_other}
 use Rattle.span_bounds.proofs.Joins.{joined_at, lies_at_join, lies_still, IsUnder-join, closed_lies, beside}
 use Rattle.span_bounds.proofs.Counts.{but_still, passages-nil, one_more}
 use Rattle.span_bounds.proofs.Totals.{total-zero, total-change, total-one, total-some, counted_each, passages_alike, passages-cons, waits_shut}
 use Rattle.span_bounds.specs.Numbers.{contexts_of}
 use Rattle.pin_matrix.specs.declared.assume.Follow.{Follow}
-
-clash : {b : Bool} → b ≡ true → b ≡ false → ⊥
-clash p q = cc
 
 different : {e : Entry} {b : Ages} → e ≡ Absent → e ≡ Present b → ⊥
 different p q = cc
@@ -59,8 +56,8 @@ Take-starts u sp g x m ready r c q = record {
 
   shut_empty : (a b : Ages) → is_open b ≡ false → (is_open a ≡ true → is_open b ≡ true) → a ≡ b
   shut_empty Empty Empty q h = refl
-  shut_empty (Between lo hi) Empty q h = absurd (clash (h refl) refl)
-  shut_empty a (Between lo hi) q h = absurd (clash refl q)
+  shut_empty (Between lo hi) Empty q h = absurd (both_ways _ refl (h refl))
+  shut_empty a (Between lo hi) q h = absurd (both_ways _ q refl)
 
   done : (i : ℕ) (a : Ages) → i < (contexts_of sp) → (e : Entry) → at g i ≡ e → open_at (at g i) ≡ false → at x i ≡ Present a → Below (at x i) (at g i) → AllLie (followed sp) (at x) (nexts_at u sp i a)
   done i a l Absent q shut e h = absurd (rw (e, q) at h)
@@ -91,12 +88,9 @@ IsTaking-skip u sp l x m ready i q t = record {
   s = t.take
 
   bad : (j : ℕ) → j ≡ i → open_at (at l j) ≡ true → slice_index m j ≡ 0 → ⊥
-  bad j e o z = clash (ready_is j o z) (rw (← e) at q) where
+  bad j e o z = both_ways _ (rw (← e) at q) (ready_is j o z) where
     ready_is : (j : ℕ) → open_at (at l j) ≡ true → slice_index m j ≡ 0 → is_ready l m j ≡ true
     ready_is j o z = rw (o, z) refl
-
-zero_from : (n : ℕ) → (n == 0) ≡ true → n ≡ 0
-zero_from n e = grind (arith, nat_tests)
 
 -- a row begins to be taken
 pub TakesRow-begins : (u : Setup) (sp : Span) (l l' x : List Entry) (m ready : List ℕ) (i : ℕ) (a : Ages) → i < (contexts_of sp) → is_ready l m i ≡ true → l' ≡ set l i Absent → a ≡ ages_or_none (at x i) → IsTaking u sp l x m (i ∷ ready) → TakesRow u sp l' x m ready i a [] (nexts_at u sp i a)
@@ -105,12 +99,12 @@ TakesRow-begins u sp l l' x m ready i a b q e o t = rw e (record {
   reached = t.reached;
   taking = record {
     keeps = s.keeps;
-    left = record { size = length-set l i Absent ∙ s.left.size; left = λ j c p. left j c p (same_or_not j i) };
+    left = record { size = length-set l i Absent ∙ s.left.size; left = λ j c p. left j c p (cases_eq j i) };
     numbers = s.numbers;
     near = λ j h. s.near j (inr h);
     count = λ v c. s.count v c ∙ count v;
-    queued = λ j c p z. queued j c p z (same_or_not j i);
-    settled = λ j c p. settled j c p (same_or_not j i);
+    queued = λ j c p z. queued j c p z (cases_eq j i);
+    settled = λ j c p. settled j c p (cases_eq j i);
     finished = λ j d c p n w. s.done j d c (rw (at_other l i j Absent n) at p) w;
     taken = rw (at_same l i Absent inside) refl;
     own = own;
@@ -126,7 +120,7 @@ TakesRow-begins u sp l l' x m ready i a b q e o t = rw e (record {
   open_i = (and_parts (open_at (at l i)) (slice_index m i == 0) q).0
 
   zero_i : slice_index m i ≡ 0
-  zero_i = zero_from (slice_index m i) (and_parts (open_at (at l i)) (slice_index m i == 0) q).1
+  zero_i = eqb-true (slice_index m i) 0 (and_parts (open_at (at l i)) (slice_index m i == 0) q).1
 
   inside : i < length l
   inside = rw s.left.size b
@@ -135,7 +129,7 @@ TakesRow-begins u sp l l' x m ready i a b q e o t = rw e (record {
   same_i = s.left.left i b open_i
 
   row : (e : Entry) → at l i ≡ e → LiesAt Empty (at x i)
-  row Absent w = absurd (clash open_i (rw w refl))
+  row Absent w = absurd (both_ways _ (rw w refl) open_i)
   row (Present c) w = s.keeps.rows i c b (sym same_i ∙ w)
 
   there : (e : Entry) → LiesAt Empty e → e ≡ Present (ages_or_none e)
@@ -146,11 +140,11 @@ TakesRow-begins u sp l l' x m ready i a b q e o t = rw e (record {
   own = there (at x i) (row (at l i) refl) ∙ ap Present (sym o)
 
   left : (j : ℕ) → j < (contexts_of sp) → open_at (at (set l i Absent) j) ≡ true → (j ≡ i) ⊎ (j ≢ i) → at (set l i Absent) j ≡ at t.reach j
-  left j c p (inl w) = absurd (clash p (rw (w, at_same l i Absent inside) refl))
+  left j c p (inl w) = absurd (both_ways _ (rw (w, at_same l i Absent inside) refl) p)
   left j c p (inr n) = at_other l i j Absent n ∙ s.left.left j c (rw (at_other l i j Absent n) at p)
 
   passes_i : (v : ℕ) (e : Entry) → at l i ≡ e → waits u sp (at l) v i ≡ passages (followed sp) v (nexts_at u sp i a)
-  passes_i v Absent w = absurd (clash open_i (rw w refl))
+  passes_i v Absent w = absurd (both_ways _ (rw w refl) open_i)
   passes_i v (Present c) w = let oc : is_open c ≡ true = rw w at open_i in rw (w, oc) (passages_alike u sp v i c a)
 
   other_waits : (v w : ℕ) → w ≢ i → waits u sp (at l) v w ≡ waits u sp (at (set l i Absent)) v w
@@ -163,7 +157,7 @@ TakesRow-begins u sp l l' x m ready i a b q e o t = rw e (record {
   count v = total-change (contexts_of sp) (waits u sp (at l) v) (waits u sp (at (set l i Absent)) v) i b (λ w c n. other_waits v w n) (no_waits v) ∙ ap (λ t. total (contexts_of sp) (waits u sp (at (set l i Absent)) v) + t) (passes_i v (at l i) refl)
 
   queued : (j : ℕ) → j < (contexts_of sp) → open_at (at (set l i Absent) j) ≡ true → slice_index m j ≡ 0 → (j ≡ i) ⊎ (j ≢ i) → Among j ready
-  queued j c p z (inl w) = absurd (clash p (rw (w, at_same l i Absent inside) refl))
+  queued j c p z (inl w) = absurd (both_ways _ (rw (w, at_same l i Absent inside) refl) p)
   queued j c p z (inr n) = elim (s.queued j c (rw (at_other l i j Absent n) at p) z) [ inl w ↦ absurd (n w) | inr h ↦ h ]
 
   settled : (j : ℕ) → j < (contexts_of sp) → open_at (at (set l i Absent) j) ≡ false → (j ≡ i) ⊎ (j ≢ i) → slice_index m j ≡ 0
@@ -171,7 +165,7 @@ TakesRow-begins u sp l l' x m ready i a b q e o t = rw e (record {
   settled j c p (inr n) = s.settled j c (rw (at_other l i j Absent n) at p)
 
   sure : (e : Entry) → at l i ≡ e → LieBut (followed sp) true (at x) (nexts_at u sp i a)
-  sure Absent w = absurd (clash open_i (rw w refl))
+  sure Absent w = absurd (both_ways _ (rw w refl) open_i)
   sure (Present c) w =
       let oc : is_open c ≡ true = rw w at open_i in
       let f : LieBut (followed sp) true (at x) (nexts_at u sp i c) = rw oc at (s.keeps.fresh i c b (sym same_i ∙ w)) in
@@ -179,20 +173,17 @@ TakesRow-begins u sp l l' x m ready i a b q e o t = rw e (record {
 
 -- the number at p is one less
 lowered_number : (m : List ℕ) (p v : ℕ) → p < length m → 1 ≤ slice_index m p → slice_index (set m p (slice_index m p - 1)) v + one_if (p == v) ≡ slice_index m v
-lowered_number m p v l h = on (same_or_not v p) where
+lowered_number m p v l h = on (cases_eq v p) where
   on : (v ≡ p) ⊎ (v ≢ p) → slice_index (set m p (slice_index m p - 1)) v + one_if (p == v) ≡ slice_index m v
   on (inl e) = let t : (p == v) ≡ true = grind (arith, nat_tests) in rw (t, e, get_or-set_same m p (slice_index m p - 1) 0 l) (omega arith)
   on (inr n) = let t : (p == v) ≡ false = grind (arith, nat_tests) in rw (t, get_or-set_other m p v (slice_index m p - 1) 0 n) (omega arith)
-
-self_number : (p : ℕ) → (p == p) ≡ true
-self_number p = grind (arith, nat_tests)
 
 -- a next to which a row that is taken passes is waited for
 pub passed_waits : (u : Setup) (sp : Span) (l x : List Entry) (m ready : List ℕ) (i : ℕ) (a : Ages) (done rest : List Next) (n : Next) → TakesRow u sp l x m ready i a done (n ∷ rest) → spot (followed sp) n < (contexts_of sp) → n.passes ≡ true → 1 ≤ slice_index m (spot (followed sp) n)
 passed_waits u sp l x m ready i a done rest n t b q =
     let c = t.taking.count (spot (followed sp) n) b in
     let d = passages-cons (followed sp) (spot (followed sp) n) n rest in
-    let o : one_if (n.passes && spot (followed sp) n == spot (followed sp) n) ≡ 1 = rw (q, self_number (spot (followed sp) n)) refl in
+    let o : one_if (n.passes && spot (followed sp) n == spot (followed sp) n) ≡ 1 = rw (q, eq-eqb (spot (followed sp) n) _ refl) refl in
     omega arith
 
 -- one next more, as the code has it
@@ -252,9 +243,9 @@ TakesRow-step u sp l x x' m m' ready ready' i a items k n lk q b bi t0 r = on n.
       numbers = length-set m (spot (followed sp) n) (slice_index m (spot (followed sp) n) - 1) ∙ s.numbers;
       near = λ j h. near (slice_index m (spot (followed sp) n) == 1) j h;
       count = λ v c. count v (s.count v c) (lowered_number m (spot (followed sp) n) v inside_m some) (passages-cons (followed sp) v n (drop (k + 1) items));
-      queued = λ j c o e. queued j c o e (same_or_not j (spot (followed sp) n));
-      settled = λ j c o. settled j c o (same_or_not j (spot (followed sp) n));
-      finished = λ j d c o h e. finished j d c o h e (same_or_not j (spot (followed sp) n));
+      queued = λ j c o e. queued j c o e (cases_eq j (spot (followed sp) n));
+      settled = λ j c o. settled j c o (cases_eq j (spot (followed sp) n));
+      finished = λ j d c o h e. finished j d c o h e (cases_eq j (spot (followed sp) n));
       taken = s.taken;
       own = at_other x (spot (followed sp) n) i (Present (join_into n.ages (at x (spot (followed sp) n)))) apart ∙ s.own;
       held = EachNext-more (λ y. LiesAt y.ages (at (joined_at x (spot (followed sp) n) n.ages) (spot (followed sp) y))) items k n lk (all_still (followed sp) x (spot (followed sp) n) n.ages _ inside_x s.held) (subst (λ y. LiesAt y.ages (at (joined_at x (spot (followed sp) n) n.ages) (spot (followed sp) y))) q (lies_at_join x (spot (followed sp) n) n.ages inside_x));
@@ -274,11 +265,11 @@ TakesRow-step u sp l x x' m m' ready ready' i a items k n lk q b bi t0 r = on n.
     open_reach = rw (s.left.left (spot (followed sp) n) b open_p) at open_p
 
     held_there : (e : Entry) → open_at e ≡ true → IsHeldBy n.ages e
-    held_there Absent o = absurd (clash o refl)
+    held_there Absent o = absurd (both_ways _ refl o)
     held_there (Present c) o = λ y. o
 
     apart : i ≢ spot (followed sp) n
-    apart e = clash (rw (← e) at open_p) s.taken
+    apart e = both_ways _ s.taken (rw (← e) at open_p)
 
     near : (y : Bool) (j : ℕ) → Among j (if y then ready ++ spot (followed sp) n ∷ [] else ready) → j < (contexts_of sp)
     near true j h = elim (Among-pop j (spot (followed sp) n) ready h) [ inl e ↦ rw e b | inr o ↦ s.near j o ]
@@ -293,7 +284,7 @@ TakesRow-step u sp l x x' m m' ready ready' i a items k n lk q b bi t0 r = on n.
 
     pushed_itself : (y : Bool) → y ≡ true → Among (spot (followed sp) n) (if y then ready ++ spot (followed sp) n ∷ [] else ready)
     pushed_itself true e = Among-push (spot (followed sp) n) (spot (followed sp) n) ready (inl refl)
-    pushed_itself false e = absurd (clash e refl)
+    pushed_itself false e = absurd (both_ways _ refl e)
 
     one_left : (v : ℕ) → 1 ≤ v → v - 1 ≡ 0 → (v == 1) ≡ true
     one_left v h e = let o : v ≡ 1 = omega arith in grind (arith, nat_tests)
@@ -305,11 +296,11 @@ TakesRow-step u sp l x x' m m' ready ready' i a items k n lk q b bi t0 r = on n.
     queued j c o e (inr d) = pushed (slice_index m (spot (followed sp) n) == 1) j (s.queued j c o (rw (get_or-set_other m (spot (followed sp) n) j (slice_index m (spot (followed sp) n) - 1) 0 d) at e))
 
     settled : (j : ℕ) → j < (contexts_of sp) → open_at (at l j) ≡ false → (j ≡ spot (followed sp) n) ⊎ (j ≢ spot (followed sp) n) → slice_index (set m (spot (followed sp) n) (slice_index m (spot (followed sp) n) - 1)) j ≡ 0
-    settled j c o (inl y) = absurd (clash open_p (rw y at o))
+    settled j c o (inl y) = absurd (both_ways _ (rw y at o) open_p)
     settled j c o (inr d) = rw (get_or-set_other m (spot (followed sp) n) j (slice_index m (spot (followed sp) n) - 1) 0 d) (s.settled j c o)
 
     finished : (j : ℕ) (d : Ages) → j < (contexts_of sp) → open_at (at l j) ≡ false → (j ≡ i → ⊥) → at (joined_at x (spot (followed sp) n) n.ages) j ≡ Present d → (j ≡ spot (followed sp) n) ⊎ (j ≢ spot (followed sp) n) → AllLie (followed sp) (at (joined_at x (spot (followed sp) n) n.ages)) (nexts_at u sp j d)
-    finished j d c o h e (inl y) = absurd (clash open_p (rw y at o))
+    finished j d c o h e (inl y) = absurd (both_ways _ (rw y at o) open_p)
     finished j d c o h e (inr y) = all_still (followed sp) x (spot (followed sp) n) n.ages _ inside_x (s.finished j d c o h (rw (at_other x (spot (followed sp) n) j (Present (join_into n.ages (at x (spot (followed sp) n)))) y) at e))
 
 -- all nexts are done
@@ -325,7 +316,7 @@ TakesRow-ends u sp l x m ready i a t = record {
     count = λ v c. s.count v c ∙ nothing v;
     queued = s.queued;
     settled = s.settled;
-    done = λ j d c o e. done j d c o e (same_or_not j i);
+    done = λ j d c o e. done j d c o e (cases_eq j i);
   };
 } where
   s : Taking u sp t.reach l x m ready i a (nexts_at u sp i a) []
@@ -412,7 +403,7 @@ IsTaken-ends u sp l x m ready none t = record {
     never e z y g = omega arith
 
   stays : (w : ℕ) (b : Ages) → w < (contexts_of sp) → open_at (at l w) ≡ true → (e : Entry) → at l w ≡ e → PassToLeft (followed sp) l (nexts_at u sp w b)
-  stays w b c o Absent q = absurd (clash (rw q at o) refl)
+  stays w b c o Absent q = absurd (both_ways _ refl (rw q at o))
   stays w b c o (Present a) q =
       let opens : is_open a ≡ true = rw q at o in
       let there : at t.reach w ≡ Present a = sym (s.left.left w c o) ∙ q in
@@ -455,9 +446,6 @@ next_waits u sp l x m ready i a items k n lk q b t z =
     let split : drop k items ≡ n ∷ drop (k + 1) items = drop_more items k n lk ∙ ap (λ y. y ∷ drop (k + 1) items) (sym q) in
     passed_waits u sp l x m ready i a (take k items) (drop (k + 1) items) n (rw split at t) b z
 
-below_or : (i n : ℕ) → i < n + 1 → (i < n) ⊎ (i ≡ n)
-below_or i n l = elim (same_or_not i n) [ inl e ↦ inr e | inr d ↦ inl (omega arith) ]
-
 unmet_more : (m : List ℕ) (n : ℕ) → n < length m → sum_by unmet (take (n + 1) m) ≡ sum_by unmet (take n m) + unmet (slice_index m n)
 unmet_more m n l = rw (take_more m n 0 l) (sum_by_push unmet (take n m) (slice_index m n))
 
@@ -473,7 +461,7 @@ AreReady-starts l m ready e = rw e (record { few = omega arith; near = λ i h. a
 pub AreReady-push : (l : List Entry) (m ready ready' : List ℕ) (n : ℕ) → n < length l → length m ≡ length l → is_ready l m n ≡ true → ready' ≡ ready ++ n ∷ [] → AreReady l m ready n → AreReady l m ready' (n + 1)
 AreReady-push l m ready ready' n b size t e q = rw e (record {
   few =
-      let z : slice_index m n ≡ 0 = zero_from (slice_index m n) (and_parts (open_at (at l n)) (slice_index m n == 0) t).1 in
+      let z : slice_index m n ≡ 0 = eqb-true (slice_index m n) 0 (and_parts (open_at (at l n)) (slice_index m n == 0) t).1 in
       let s : sum_by unmet (take (n + 1) m) ≡ sum_by unmet (take n m) + unmet (slice_index m n) = unmet_more m n (rw size b) in
       let u : unmet (slice_index m n) ≡ 0 = rw z refl in
       rw (length_push ready n) (omega (arith, q.few));
@@ -492,7 +480,7 @@ AreReady-skip l m ready n b size f q = record {
   ready_is j o z = rw (o, z) refl
 
   bad : (i : ℕ) → i ≡ n → open_at (at l i) ≡ true → slice_index m i ≡ 0 → ⊥
-  bad i d o z = clash (ready_is i o z) (rw (← d) at f)
+  bad i d o z = both_ways _ (rw (← d) at f) (ready_is i o z)
 
 -- rows that come after the last aren't there
 pub AreReady-rest : (l : List Entry) (m ready : List ℕ) (end k : ℕ) → length m ≡ length l → EndsAt l end → end + k ≤ length l → AreReady l m ready end → AreReady l m ready (end + k)

@@ -1,6 +1,6 @@
 -- Sums over the rows, and how many passages there are.
 use Rattle.std.proofs.Common.{◌≡◌, ◌≢◌, ℕ, zero, suc, ◌+◌, ◌<◌, ◌≤◌, ◌==◌, Bool, true, false, ◌&&◌, if◌then◌else◌, List, [], ◌∷◌, map, refl, sym, ap, ◌∙◌, inl, inr, arith}
-use Rattle.std.proofs.lemmas.Bool.{cases_lt}
+use Rattle.std.proofs.lemmas.Bool.{cases_lt, eq-eqb}
 use Rattle.std.proofs.lemmas.Bool.Decides.{nat_tests}
 use Rattle.pin_matrix.specs.Followed.{followed}
 use Rattle.pin_matrix.specs.declared.setup.Setup.{Setup}
@@ -79,16 +79,13 @@ pub passages-cons : (far : Follow) (v : ℕ) (n : Next) (ns : List Next) → pas
 unfolding passages
 passages-cons far v n ns = refl
 
-self_number : (p : ℕ) → (p == p) ≡ true
-self_number p = grind (arith, nat_tests)
-
 -- each next to which a course passes is counted at its number
 pub counted_each : (far : Follow) (ns : List Next) → EachNext (λ n. n.passes ≡ true → 1 ≤ passages far (spot far n) ns) ns
 unfolding passages
 counted_each far [] = tt
 counted_each far (m ∷ ns) = (own, EachNext-map (λ n. n.passes ≡ true → 1 ≤ passages far (spot far n) ns) (λ n. n.passes ≡ true → 1 ≤ passages far (spot far n) (m ∷ ns)) (λ n k q. more n (k q)) ns (counted_each far ns)) where
   own : m.passes ≡ true → 1 ≤ passages far (spot far m) (m ∷ ns)
-  own q = let e : one_if (m.passes && spot far m == spot far m) ≡ 1 = rw (q, self_number (spot far m)) refl in let c = passages-cons far (spot far m) m ns in omega arith
+  own q = let e : one_if (m.passes && spot far m == spot far m) ≡ 1 = rw (q, eq-eqb (spot far m) _ refl) refl in let c = passages-cons far (spot far m) m ns in omega arith
 
   more : (n : Next) → 1 ≤ passages far (spot far n) ns → 1 ≤ passages far (spot far n) (m ∷ ns)
   more n h = let c = passages-cons far (spot far n) m ns in omega arith
