@@ -1,5 +1,6 @@
 -- A delay, tick by tick, and where an instruction that has finished rests.
 use Rattle.std.proofs.Common.{◌≡◌, ℕ, zero, suc, ◌-◌, ◌<◌, ◌⊎◌, Bool, true, false, Option, None, refl, sym, ap, ◌∙◌, inl, inr, subst, arith}
+use Rattle.std.proofs.lemmas.Bool.{false≢true}
 use Rattle.pin_matrix.specs.Followed as span
 use Rattle.pin_matrix.specs.declared.machine.MachineSetup.{MachineSetup}
 use Rattle.pin_matrix.specs.declared.setup.Setup.{Setup}
@@ -79,9 +80,6 @@ still_delayed kept d (inr h) e z = h z
 delay_closes : (s : MachineSetup) (sp : Span) (address : ℕ) (w : Watch) → closes (rules_of s sp address) w delay_tick ≡ false
 unfolding rules_of
 delay_closes s sp address w = rw (no_edge sp.to_rise w.to) refl
-
-false≢true : false ≡ true → ⊥
-false≢true e = cc
 
 pub delay_followed : (u : Setup) (sp : Span) (rows : Context → Option Ages) (s : MachineSetup) (q : Queues) (kept : Bool) (r : Registers) (w : Watch) → 0 < r.delay → IsResting sp rows s kept (flow_of r) w
     → (z : Bool) → IsFollowed u sp rows s kept r.pc z w (tick_delay s q r)
