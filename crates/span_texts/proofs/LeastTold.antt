@@ -14,6 +14,7 @@ use Rattle.span_step.specs.Laws.{AreAlike, GoesLike, AreInside, AreUpTo, AllUpTo
 use Rattle.span_step.specs.Narrowing.{nexts_of}
 use Rattle.span_step.specs.Steps.{context_steps}
 use Rattle.span_step.proofs.Periods.{most_small}
+use Rattle.span_step.proofs.Wider.{inside_trans}
 use Rattle.span_bounds.specs.declared.entry.Entry.{Entry}
 use Rattle.span_bounds.specs.declared.entry.Entry.TheVariants.{Absent, Present}
 use Rattle.span_bounds.specs.declared.row.Row.{Row}
@@ -96,15 +97,9 @@ empty_fixed : (m : ℕ) (e : Entry) → LiesAt Empty e → LiesAt Empty (fixed_e
 empty_fixed m Absent h = h
 empty_fixed m (Present a) h = tt
 
-inside-trans : (a b c : Ages) → IsInside a b → IsInside b c → IsInside a c
-inside-trans Empty b c h k = tt
-inside-trans (Between l g) Empty c h k = absurd h
-inside-trans (Between l g) (Between lo hi) Empty h k = absurd k
-inside-trans (Between l g) (Between lo hi) (Between low high) h k = (omega (arith, h.0, k.0), omega (arith, h.1, k.1))
-
 lies_fixed : (m : ℕ) (a b : Ages) (e : Entry) → IsRight a → AreUpTo m a → IsInside a b → LiesAt b e → LiesAt a (fixed_entry m e)
 lies_fixed m a b Absent h k i l = l
-lies_fixed m a b (Present c) h k i l = within_fixed m a c h k (inside-trans a b c i l)
+lies_fixed m a b (Present c) h k i l = within_fixed m a c h k (inside_trans a b c i l)
 
 nexts_fixed : (d : Follow) (m : ℕ) (rows : List Row) (ns os : List Next) → AreAlike (GoesLike AreInside) ns os → AllRight ns → AllUpTo m ns → AllLieIn d rows os → AllLieIn d (map (fixed_row m) rows) ns
 nexts_fixed d m rows [] os h r c l = tt

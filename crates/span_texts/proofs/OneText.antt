@@ -2,7 +2,7 @@
 use Rattle.std.proofs.Common.{◌≡◌, ℕ, ◌+◌, ◌^◌, ◌<◌, ◌≤◌, nat_lt, nat_le, cond, ◌&&◌, ◌==◌, Bool, true, false, List, [], ◌∷◌, ◌++◌, Option, Some, None, Result, Ok, Err, refl, sym, ap, subst, ◌∙◌, append_assoc, codes, decimal, inl, inr, arith}
 use Rattle.std.specs.List.{join_with_byte}
 use Rattle.std.specs.Str.{bytes_eq}
-use Rattle.std.proofs.lemmas.Bool.{cases_Bool, and_parts, leb-true}
+use Rattle.std.proofs.lemmas.Bool.{cases_Bool, and_parts, leb-true, and_from}
 use Rattle.std.proofs.lemmas.Bool.Decides.{nat_tests}
 use Rattle.std.proofs.lemmas.Fmt.{decimal_digit}
 use Rattle.std.proofs.lemmas.List.Splits.{join_with_byte-slice_split}
@@ -149,9 +149,6 @@ ages_there (field ∷ []) g h e = empty_by (bytes_eq field (codes "-")) field g 
 ages_there (lo ∷ hi ∷ []) g h e = between_by (number_in lo) (number_in hi) lo hi g refl refl h e
 ages_there (lo ∷ hi ∷ more ∷ others) g h e = absurd (none-some _ e)
 
-and_three : (a b c : Bool) → a ≡ true → b ≡ true → c ≡ true → (a && (b && c)) ≡ true
-and_three a b c p q s = rw (p, q, s) refl
-
 -- what is known of a row that was read
 record IsRead (d : Follow) (r : Row) (fields : List (List ℕ)) : Type 0 where
   whole : IsNarrow d → row_fields r ≡ fields
@@ -173,7 +170,7 @@ fields_there d a x y f t g s r e h =
     let pt = level_is s.to r.context.to part.to_is in
     let pg = ages_are s.ages r.ages part.ages_are in
     let told : IsAgeRange r.ages = rw (← pg.0) pg.1 in
-    let there : is_placed d r.context.address r.context.x r.context.y ≡ true = and_three _ _ _ pa.1 px.1 py.1 in
+    let there : is_placed d r.context.address r.context.x r.context.y ≡ true = and_from _ _ pa.1 (and_from _ _ px.1 py.1) in
     let ef : level_text r.context.from ≡ f = level_field r.context.from f (said.from_is ∙ ap (λ (n : ℕ). Some n) pf) in
     let et : level_text r.context.to ≡ t = level_field r.context.to t (said.to_is ∙ ap (λ (n : ℕ). Some n) pt) in
     record {

@@ -1,9 +1,9 @@
 -- The text of a table is read back.
-use Rattle.std.proofs.Common.{◌≡◌, ℕ, ◌+◌, ◌^◌, ◌<◌, ◌≤◌, nat_lt, nat_le, nat_eq, eqb, ◌&&◌, Bool, true, false, true≢false, List, [], ◌∷◌, ◌++◌, length, Option, Some, None, Bor, Ok, refl, sym, ap, ◌∙◌, append_assoc, codes, decimal, arith}
+use Rattle.std.proofs.Common.{◌≡◌, ℕ, ◌+◌, ◌^◌, ◌<◌, ◌≤◌, nat_lt, nat_le, nat_eq, eqb, ◌&&◌, Bool, true, false, List, [], ◌∷◌, ◌++◌, length, Option, Some, None, Bor, Ok, refl, sym, ap, ◌∙◌, append_assoc, codes, decimal, arith}
 use Rattle.std.specs.Prelude.{option_copied}
 use Rattle.std.specs.Str.{bytes_eq}
 use Rattle.std.specs.Str.Parse.{AllDigits}
-use Rattle.std.proofs.lemmas.Bool.{le-leb}
+use Rattle.std.proofs.lemmas.Bool.{le-leb, and_parts}
 use Rattle.std.proofs.lemmas.Bool.Decides.{nat_tests}
 use Rattle.std.proofs.lemmas.Fmt.{decimal_is_IsNumeral}
 use Rattle.std.proofs.lemmas.List.Elements.{All-from_recursion}
@@ -84,9 +84,7 @@ ages_back Empty h = refl
 ages_back (Between lo hi) h = rw (le-leb lo hi h.0, le-leb hi most_age h.1) refl
 
 three : (a b c : Bool) → (a && (b && c)) ≡ true → (a ≡ true) × ((b ≡ true) × (c ≡ true))
-three true true c h = (refl, (refl, h))
-three true false c h = absurd (true≢false (sym h))
-three false b c h = absurd (true≢false (sym h))
+three a b c h = let p = and_parts a (b && c) h in (p.0, and_parts b c p.1)
 
 row_back : (d : Follow) (r : Row) → is_placed d r.context.address r.context.x r.context.y ≡ true → IsAgeRange r.ages → row_of d (said_row r) ≡ Some r
 row_back d r p h =
