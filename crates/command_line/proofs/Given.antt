@@ -3,7 +3,7 @@ use Rattle.std.proofs.Common.{◌≡◌, ◌∙◌, ◌++◌, ◌||◌, ◌&&◌
 use Rattle.std.specs.List.{AllByRecursion, find, list_all, list_any}
 use Rattle.std.specs.Option.{option_map_or}
 use Rattle.std.specs.Str.{bytes_eq}
-use Rattle.std.proofs.lemmas.Bool.{or_cases}
+use Rattle.std.proofs.lemmas.Bool.{or_cases, not-true}
 use Rattle.clap.specs.Faults.{level_fault}
 use Rattle.clap.specs.Simple.{App, Shape, argument_words, built, built_leaf, help_shape, inherited, label_of, marked_built, names_of, subcommand_of, with_leaf_noted}
 use Rattle.clap.specs.ValueTests.{is_unsigned_in}
@@ -14,7 +14,7 @@ use Rattle.command_line.specs.Given.{GivesNumber, GivesText, GivesWord, IsGiven,
 use Rattle.command_line.specs.Laws.{number_of}
 use Rattle.command_line.specs.Tool.{bit_limit, clock_limit, divider_limit, least_bit, least_divider, pin_limit, seed_limit, side_limit, tool, asm_app, run_app, dis_app, check_app, gen_app, table_app, recheck_app, shares_app, measure_app, receive_app, uart_app, pair_app, inspect_app}
 use Rattle.command_line.specs.Words.{Asked, asked_of, number_at, number_in, subcommand_asked, text_at}
-use Rattle.command_line.proofs.Usual.{in_range}
+use Rattle.command_line.proofs.Usual.{in_range, range_read}
 use Rattle.command_line.proofs.Spelled.{alone_text, attached_text}
 use Rattle.command_line.proofs.Rows.{Stands, attached, found_passes, is_among, is_filled, is_named, is_ordinary, is_passed, is_placed, is_stored, follows, placed, same_text, stored, text_is}
 use Rattle.command_line.proofs.Levels.{AreBeside, Entered, Has, LevelGives, beside_all, has_given, has_row_of, level_gives, needed_given, parse_enters}
@@ -42,10 +42,6 @@ some_rule p q (a ∷ more) all any = elim (or_cases (q a) _ any) [
 past : (b c : Bool) → (not b || c) ≡ true → b ≡ true → c ≡ true
 past true c e t = e
 past false c e t = absurd (true≢false (sym t))
-
-is_not : (b : Bool) → not b ≡ true → b ≡ false
-is_not true e = absurd (true≢false (sym e))
-is_not false e = refl
 
 none_filled : (texts : List Text) (v : Text) → not (is_filled texts) ≡ true → is_among v texts ≡ true → ⊥
 none_filled [] v none among = true≢false (sym among)
@@ -95,7 +91,7 @@ module _ (c : List Rule) (words : List Text) (id : Text) where
       let r = some_rule (is_long_rule id) (λ a. bytes_eq a.id id && is_some a.index) c all e in
       let test = both (bytes_eq r.0.id id) _ r.2 in
       let p = both (option_map_or (λ l. bytes_eq l id) r.0.long false) _ (past (bytes_eq r.0.id id) _ r.1 test.0) in
-      true≢false (sym test.1 ∙ is_not (is_some r.0.index) (both (not (is_filled r.0.aliases)) _ p.1).1)
+      true≢false (sym test.1 ∙ not-true (is_some r.0.index) (both (not (is_filled r.0.aliases)) _ p.1).1)
 
   -- the value of an option is given, or it is stored
   long_given : list_all (is_long_rule id) c ≡ true → (v : Text) → Stands c words id v → GivesText words id v ⊎ (is_stored c id v ≡ true)
@@ -141,9 +137,6 @@ least_read least most text e =
     let above = r.least in
     rw r.same (omega (arith, above, below))
 
-most_read : (most : ℕ) (text : Text) → is_unsigned_in 0 most text ≡ true → min (number_in text) most ≡ number_of text
-most_read most text e = let r = in_range 0 most text e in let below = r.greatest in rw r.same (omega (arith, below))
-
 abbrev is_needed : List Rule → Text → Bool
 is_needed c id = list_any (λ a. bytes_eq a.id id && a.required) c
 
@@ -184,7 +177,7 @@ module _ (s : Shape) (words : List Text) (all : list_all is_ordinary s.rules ≡
         text = h.text;
         given = option_given s.rules words id long none h.text h.holds.stands;
         whole = w;
-        number = ap (λ (o : Option Text). min (option_map_or number_in o 0) most) h.one ∙ most_read most h.text w;
+        number = ap (λ (o : Option Text). min (option_map_or number_in o 0) most) h.one ∙ range_read most h.text w;
       }
 
   number_part_from : (least most : ℕ) → is_needed s.rules id ≡ true → list_all (is_long_rule id) s.rules ≡ true → list_all (is_bare_rule id) s.rules ≡ true
@@ -211,7 +204,7 @@ module _ (s : Shape) (words : List Text) (all : list_all is_ordinary s.rules ≡
           → (number_at most id rows ≡ 0) ⊎ GivesNumber words id 0 most (number_at most id rows)
       by_row h (inl given) =
           let w = whole h.text h.holds.passes in
-          inr (record { text = h.text; given = given; whole = w; number = ap (λ (o : Option Text). min (option_map_or number_in o 0) most) h.one ∙ most_read most h.text w })
+          inr (record { text = h.text; given = given; whole = w; number = ap (λ (o : Option Text). min (option_map_or number_in o 0) most) h.one ∙ range_read most h.text w })
       by_row h (inr is) =
           inl (ap (λ (o : Option Text). min (option_map_or number_in o 0) most) h.one ∙ none_least (number_in h.text) (zero_stored h.text is))
 

@@ -3,7 +3,7 @@ use Rattle.std.proofs.Common.{◌≡◌, ◌∙◌, ◌++◌, ◌||◌, ◌&&◌
 use Rattle.std.specs.List.{AllByRecursion, find, fold, list_all, list_any}
 use Rattle.std.specs.Option.{option_map_or}
 use Rattle.std.specs.Str.{bytes_eq}
-use Rattle.std.proofs.lemmas.Bool.{and_right, or_cases, or_parts, or_right}
+use Rattle.std.proofs.lemmas.Bool.{and_right, or_cases, or_parts, or_right, not-false}
 use Rattle.clap.specs.Facts.{explicit_source}
 use Rattle.clap.specs.Faults.{default_fault, defaults_fault, entered_fault, given_default_fault, level_fault, values_fault, other_fault, step_fault, turn_fault, walk_fault, word_fault}
 use Rattle.clap.specs.Kinds.{Kinds, check_kinds, or_else, request_kinds}
@@ -285,11 +285,7 @@ needed_given (a ∷ more) id rows e t = elim (or_cases (bytes_eq a.id id && a.re
   | inr later ↦ needed_given more id rows (or_parts (a.required && not (is_given a.id rows)) _ e).1 later
 ]
   where
-    not_false : (b : Bool) → not b ≡ false → b ≡ true
-    not_false true e = refl
-    not_false false e = absurd (true≢false e)
-
     by_rule : (bytes_eq a.id id ≡ true) × (a.required ≡ true) → (a.required && not (is_given a.id rows)) ≡ false → is_given id rows ≡ true
     by_rule p e =
         let open_ : not (is_given a.id rows) ≡ false = subst (λ b. (b && not (is_given a.id rows)) ≡ false) p.1 e in
-        subst (λ t. is_given t rows ≡ true) (text_is a.id id p.0) (not_false _ open_)
+        subst (λ t. is_given t rows ≡ true) (text_is a.id id p.0) (not-false _ open_)

@@ -3,7 +3,8 @@ use Rattle.std.proofs.Common.{◌≡◌, ◌++◌, ◌||◌, ◌&&◌, Bool, tru
 use Rattle.std.specs.List.{AllByRecursion, find, list_all, list_any}
 use Rattle.std.specs.Option.{option_map_or}
 use Rattle.std.specs.Str.{bytes_eq}
-use Rattle.std.proofs.lemmas.Bool.{and_from, or_left, or_right}
+use Rattle.std.proofs.lemmas.Bool.{and_from, or_left, or_right, not-true}
+use Rattle.std.proofs.lemmas.Option.{same_Some}
 use Rattle.std.proofs.lemmas.Slice.Eq.{bytes_eq-Decides}
 use Rattle.clap.specs.Facts.{parser_of_value, unwrap_or_range}
 use Rattle.clap.specs.Faults.{action_fault, settle_fault, use_fault, values_fault}
@@ -40,16 +41,13 @@ of_tail x xs a o = record {
   each = λ q e. o.each q (both (q x) (list_all q xs) e).1;
 }
 
-some_same : {X : Type 0} (x y : X) → Some x ≡ Some y → x ≡ y
-some_same x y e = cc
-
 -- an argument that was found is one of those, and passes the test
 pub found_of : (p : Rule → Bool) (c : List Rule) (a : Rule) → find p c ≡ Some a → IsOf c a
 found_of p [] a e = cc
 found_of p (x ∷ xs) a e = go (p x) (found_of p xs a) e
   where
     go : (b : Bool) → (find p xs ≡ Some a → IsOf xs a) → cond b (Some x) (find p xs) ≡ Some a → IsOf (x ∷ xs) a
-    go true rest e = subst (IsOf (x ∷ xs)) (some_same x a e) (of_head x xs)
+    go true rest e = subst (IsOf (x ∷ xs)) (same_Some x a e) (of_head x xs)
     go false rest e = of_tail x xs a (rest e)
 
 pub found_passes : {X : Type 0} (p : X → Bool) (c : List X) (a : X) → find p c ≡ Some a → p a ≡ true
@@ -57,7 +55,7 @@ found_passes p [] a e = cc
 found_passes p (x ∷ xs) a e = go (p x) refl (found_passes p xs a) e
   where
     go : (b : Bool) → p x ≡ b → (find p xs ≡ Some a → p a ≡ true) → cond b (Some x) (find p xs) ≡ Some a → p a ≡ true
-    go true is rest e = subst (λ y. p y ≡ true) (some_same x a e) is
+    go true is rest e = subst (λ y. p y ≡ true) (same_Some x a e) is
     go false is rest e = rest e
 
 -- each argument of a list is one of it
@@ -110,10 +108,6 @@ pub record Ordinary (a : Rule) : Type 0 where
   pub most : nat_lt 1 (most_values a) ≡ false
   pub fits : suits (action_of a) a ≡ true
 
-is_not : (b : Bool) → not b ≡ true → b ≡ false
-is_not true e = absurd (true≢false (sym e))
-is_not false e = refl
-
 as_written : (r : Reading) → is_as_written r ≡ true → r ≡ reading.AsWritten
 as_written reading.AsWritten e = refl
 as_written reading.WithoutMinus e = absurd (true≢false (sym e))
@@ -125,7 +119,7 @@ ordinary c a all o =
     let p = both (is_as_written (reading_by a)) _ (o.each is_ordinary all) in
     let q = both (not (takes_several a)) _ p.1 in
     let r = both (not (nat_lt 1 (most_values a))) _ q.1 in
-    record { written = as_written _ p.0; single = is_not _ q.0; most = is_not _ r.0; fits = r.1 }
+    record { written = as_written _ p.0; single = not-true _ q.0; most = not-true _ r.0; fits = r.1 }
 
 -- ---- where a value stands
 

@@ -5,6 +5,7 @@ use Rattle.std.specs.Prelude.{option_and_then}
 use Rattle.std.proofs.lemmas.Bool.{cases_lt, or_left, or_right}
 use Rattle.std.proofs.lemmas.List.Folds.{list_any_none}
 use Rattle.std.proofs.lemmas.List.Sums.{fails_before_first, passes_at_first, split_at_first}
+use Rattle.std.proofs.lemmas.Option.{same_Some}
 use Rattle.clap.specs.Lexer.{has_byte, long_of, long_of_rest, name_and_value, strip_byte}
 use Rattle.clap.specs.Walk.{Text}
 
@@ -13,15 +14,12 @@ abbrev pub spelled : Text → Option Text → Text
 spelled name None = name
 spelled name (Some value) = name ++ 61 ∷ value
 
-some_same : {X : Type 0} (x y : X) → Some x ≡ Some y → x ≡ y
-some_same x y e = cc
-
 strip_is : (c : ℕ) (xs rest : Text) → strip_byte c xs ≡ Some rest → xs ≡ c ∷ rest
 strip_is c [] rest e = cc
 strip_is c (x ∷ xs) rest e = go (x == c) refl e
   where
     go : (b : Bool) → (x == c) ≡ b → cond b (Some xs) None ≡ Some rest → x ∷ xs ≡ c ∷ rest
-    go true is e = ap₂ (λ y ys. y ∷ ys) (eqb-true x c is) (some_same xs rest e)
+    go true is e = ap₂ (λ y ys. y ∷ ys) (eqb-true x c is) (same_Some xs rest e)
     go false is e = cc
 
 -- the byte stands at its first place
@@ -63,7 +61,7 @@ long_text word name v e = first (strip_byte 45 word) refl e
   where
     rest_text : (t : Text) → long_of_rest t ≡ Some (name, v) → t ≡ spelled name v
     rest_text [] e = cc
-    rest_text (x ∷ xs) e = pair_text (x ∷ xs) name v (some_same _ _ e)
+    rest_text (x ∷ xs) e = pair_text (x ∷ xs) name v (same_Some _ _ e)
 
     second : (w : Text) (o : Option Text) → strip_byte 45 w ≡ o → option_and_then long_of_rest o ≡ Some (name, v) → w ≡ 45 ∷ spelled name v
     second w None is e = cc

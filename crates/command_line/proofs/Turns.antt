@@ -3,7 +3,7 @@ use Rattle.std.proofs.Common.{◌≡◌, ◌++◌, ◌||◌, ◌&&◌, ◌==◌,
 use Rattle.std.specs.List.{list_all, list_any}
 use Rattle.std.specs.Option.{option_map_or}
 use Rattle.std.specs.Str.{bytes_eq}
-use Rattle.std.proofs.lemmas.Bool.{and_from, and_right}
+use Rattle.std.proofs.lemmas.Bool.{and_from, and_right, not-true}
 use Rattle.clap.specs.Faults.{action_fault, bundle_fault, bundle_step_fault, flag_word_fault, flags_fault, long_fault, option_fault, other_fault, react_fault, settle_fault, short_fault, step_fault, stray_fault, turn_fault, word_fault}
 use Rattle.clap.specs.Kinds.{Kinds, or_else}
 use Rattle.clap.specs.Lexer.{long_of, short_of}
@@ -18,10 +18,6 @@ use Rattle.command_line.proofs.Rows.{HeldHolds, IsOf, PendingHolds, Stands, atta
 
 -- ---- a bundle of short names
 
-is_not : (b : Bool) → not b ≡ true → b ≡ false
-is_not true e = absurd (true≢false (sym e))
-is_not false e = refl
-
 no_short : (short : Option ℕ) (aliases : List ℕ) (x : ℕ) → (not (is_some short) && not (is_filled aliases)) ≡ true
     → (option_map_or (λ s. s == x) short false || list_any (λ alias. alias == x) aliases) ≡ true → ⊥
 no_short None [] x none has = true≢false (sym has)
@@ -32,7 +28,7 @@ no_short (Some s) ss x none has = true≢false (sym none)
 help_of : (x : ArgAction) (a : Rule) (letter : ℕ) → suits x a ≡ true → has_short a letter ≡ true → (x ≡ action.Help) × (takes_values a ≡ false)
 help_of action.Set a letter suit has = absurd (no_short a.short a.short_aliases letter (both _ _ suit).1 has)
 help_of action.SetTrue a letter suit has = absurd (no_short a.short a.short_aliases letter (both _ _ suit).1 has)
-help_of action.Help a letter suit has = (refl, is_not _ suit)
+help_of action.Help a letter suit has = (refl, not-true _ suit)
 help_of action.Append a letter suit has = absurd (true≢false (sym suit))
 help_of action.SetFalse a letter suit has = absurd (true≢false (sym suit))
 help_of action.Count a letter suit has = absurd (true≢false (sym suit))

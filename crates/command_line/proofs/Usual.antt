@@ -34,7 +34,7 @@ in_range low most text e =
     let ends = both (nat_le low n) (nat_le n most) inner.1 in
     record { same = rw (numeral.0, numeral.1, inner.0) refl; least = leb-true _ _ ends.0; greatest = leb-true _ _ ends.1 }
 
-range_read : (most : ℕ) (text : Text) → is_unsigned_in 0 most text ≡ true → min (number_in text) most ≡ number_of text
+pub range_read : (most : ℕ) (text : Text) → is_unsigned_in 0 most text ≡ true → min (number_in text) most ≡ number_of text
 range_read most text e = let r = in_range 0 most text e in let below = r.greatest in rw r.same (omega (arith, below))
 
 bit_read : (text : Text) → is_unsigned_in least_bit bit_limit text ≡ true → max (min (number_in text) bit_limit) least_bit ≡ number_of text
