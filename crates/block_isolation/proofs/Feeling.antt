@@ -23,7 +23,7 @@ use Rattle.block_shares.specs.Reach.{act_at, of_first, gathered, reach_of}
 use Rattle.block_shares.specs.Shares.{pins_of, writes_by, touched_wildly, touched_by}
 use Rattle.block_isolation.proofs.Bits.{bit_down, has_ones, has_or, has_or_left, has_or_right, has_zero}
 use Rattle.block_isolation.proofs.Changing.{IsAmong, changes_among}
-use Rattle.block_isolation.proofs.Homes.{IsHome, IsAtFirst, runs_memory, runs_first, home_there}
+use Rattle.block_isolation.proofs.Homes.{IsHome, runs_memory, runs_first, home_there, act_read}
 use Rattle.block_isolation.proofs.Premises.{TickLaws, PinLaws}
 use Rattle.block_isolation.proofs.Ranged.{ranged_word}
 use Rattle.block_isolation.proofs.Reaching.{gathered_has}
@@ -145,16 +145,12 @@ changes_tick t s v q r h =
       }
     ]
 
-act_reading : (s : MachineSetup) (v : View) (r : Registers) → (reading_of (current_word v r) s.side_rule).act ≡ act_of (current_word v r)
-unfolding reading_of
-act_reading s v r = refl
-
 pub changes_own : (memory : List ℕ) (s : MachineSetup) (v : View) (q : Queues) (r : Registers) → v.memory ≡ memory → IsHome memory s r → ChangesOwn (touched_by memory s) (tick_of s v q r).1
 changes_own memory s v q r same home =
     let t = touched_by memory s in
     elim (own_act memory s v r same home) [
       | inl wild ↦ changes_tick t s v q r (λ f inside k. absurd (let up : has t.changes f ≡ true = ap (λ (u : Touches). has u.changes f) wild ∙ has_ones 8 f inside in cc))
-      | inr own ↦ changes_tick t s v q r (λ f inside k. ap (λ (a : Act). has (changes_of a s) f) (act_reading s v r) ∙ within_not (changes_of (act_of (current_word v r)) s) t.changes f own.changes k)
+      | inr own ↦ changes_tick t s v q r (λ f inside k. ap (λ (a : Act). has (changes_of a s) f) (act_read s v r) ∙ within_not (changes_of (act_of (current_word v r)) s) t.changes f own.changes k)
     ]
 
 -- the pins that a tick writes are the machine's

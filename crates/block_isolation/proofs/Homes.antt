@@ -1,5 +1,5 @@
 -- A tick keeps a machine among the words that it reaches, reads only what those words read, and changes only what they change.
-use Rattle.std.proofs.Common.{◌≡◌, ◌∙◌, ℕ, ◌+◌, ◌-◌, ◌%◌, ◌<◌, ◌==◌, nat_lt, nat_le, true, false, ◌&&◌, cond, ◌⊎◌, Option, Some, None, is_some, List, slice_index, refl, sym, ap, subst, inl, inr, arith}
+use Rattle.std.proofs.Common.{◌≡◌, ◌∙◌, ℕ, ◌-◌, ◌<◌, nat_lt, nat_le, true, false, ◌&&◌, cond, ◌⊎◌, Option, Some, None, is_some, List, slice_index, refl, sym, ap, subst, inl, inr}
 use Rattle.std.proofs.lemmas.Bool.{cases_Bool}
 use Rattle.pio_encode.specs.declared.act.Act.{Act}
 use Rattle.pio_encode.specs.declared.op.Op.{Op}
@@ -127,7 +127,7 @@ after_there memory s delay r act next e runs tame there below =
     ]
 
 -- the reading of a word has its act
-act_read : (s : MachineSetup) (v : View) (r : Registers) → (reading_of (current_word v r) s.side_rule).act ≡ act_of (current_word v r)
+pub act_read : (s : MachineSetup) (v : View) (r : Registers) → (reading_of (current_word v r) s.side_rule).act ≡ act_of (current_word v r)
 unfolding reading_of
 act_read s v r = refl
 

@@ -1,5 +1,6 @@
 -- The places of a block in a clock: what holds of each, and what the others leave to one machine.
 use Rattle.std.proofs.Common.{◌≡◌, ◌≢◌, ◌∙◌, ℕ, zero, suc, ◌^◌, ◌<◌, ◌==◌, Bool, true, false, ◌||◌, cond, Option, Some, None, option_map, List, [], ◌∷◌, ◌++◌, map, flat_map, slice_index_or, bit_or, refl, sym, ap, arith}
+use Rattle.std.proofs.Math.Bool.{or-false}
 use Rattle.std.proofs.lemmas.Nat.{or_lt}
 use Rattle.std.proofs.lemmas.Nat.Bits.{bit_at-zero}
 use Rattle.std.specs.Int.{bit_at}
@@ -136,22 +137,18 @@ last_own pins get v d p (place ∷ places) (suc m) old none h =
     ∙ last_own pins get v d p places m old none (λ k apart. h (suc k) (λ e. apart (omega (arith, e)))))
 
 -- the flags that the others lower, or raise, aren't the one's; `get` is either
-or_false : (a : Bool) → (a || false) ≡ a
-or_false true = refl
-or_false false = refl
-
 with_one : (a b c : Bool) → b ≡ false → ((a || b) || c) ≡ (a || c)
-with_one a b c h = ap (λ (x : Bool). x || c) (ap (λ (x : Bool). a || x) h ∙ or_false a)
+with_one a b c h = ap (λ (x : Bool). x || c) (ap (λ (x : Bool). a || x) h ∙ or-false a)
 
 no_more : (get : Intent → ℕ) (v : View) (d : Due) (f flags : ℕ) (places : List (Option Slot)) → ((k : ℕ) → has (get (place_intent v d (slice_index_or places k None))) f ≡ false) → has (with_all flags (map get (map (place_intent v d) places))) f ≡ has flags f
 no_more get v d f flags [] h = refl
 no_more get v d f flags (place ∷ places) h =
     no_more get v d f (bit_or flags (get (place_intent v d place))) places (λ k. h (suc k))
-    ∙ (has_or flags (get (place_intent v d place)) f ∙ (ap (λ (x : Bool). has flags f || x) (h zero) ∙ or_false (has flags f)))
+    ∙ (has_or flags (get (place_intent v d place)) f ∙ (ap (λ (x : Bool). has flags f || x) (h zero) ∙ or-false (has flags f)))
 
 pub flags_own : (get : Intent → ℕ) (v : View) (d : Due) (f flags : ℕ) (places : List (Option Slot)) (m : ℕ) → has (get no_intent) f ≡ false → ((k : ℕ) → k ≢ m → has (get (place_intent v d (slice_index_or places k None))) f ≡ false)
     → has (with_all flags (map get (map (place_intent v d) places))) f ≡ (has flags f || has (get (place_intent v d (slice_index_or places m None))) f)
-flags_own get v d f flags [] m none h = sym (ap (λ (x : Bool). has flags f || x) none ∙ or_false (has flags f))
+flags_own get v d f flags [] m none h = sym (ap (λ (x : Bool). has flags f || x) none ∙ or-false (has flags f))
 flags_own get v d f flags (place ∷ places) zero none h =
     no_more get v d f (bit_or flags (get (place_intent v d place))) places (λ k. h (suc k) (λ e. absurd (omega (arith, e))))
     ∙ has_or flags (get (place_intent v d place)) f

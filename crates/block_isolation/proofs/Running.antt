@@ -1,7 +1,6 @@
 -- What is true in each clock of one run: its numbers are words, its setups stay, and each machine is among its words.
 use Rattle.std.proofs.Common.{◌≡◌, ◌∙◌, ℕ, zero, suc, ◌+◌, ◌^◌, ◌<◌, ◌==◌, true, Option, Some, None, option_map, IfSome, ◌⊎◌, List, [], ◌∷◌, slice_index_or, refl, sym, ap, subst, inl, inr, arith}
-use Rattle.std.proofs.lemmas.Bool.{and_parts}
-use Rattle.std.proofs.lemmas.Bool.Decides.{nat_tests}
+use Rattle.std.proofs.lemmas.Bool.{and_parts, eqb-true}
 use Rattle.std.proofs.Math.ListN.{get_or-map}
 use Rattle.pin_matrix.specs.Pins.{IsWrite, merged}
 use Rattle.pin_matrix.specs.Setups.{ids_are_places}
@@ -132,16 +131,13 @@ place_setup s b same k m h =
     (sym (setups_at (first_state s) k) ∙ (ap (λ (xs : List (Option MachineSetup)). slice_index_or xs k None) (sym same) ∙ (setups_at b k ∙ ap (option_map (λ (x : Slot). x.machine.setup)) h)))
 
 -- each machine has its place's number
-same_number : (a b : ℕ) → (a == b) ≡ true → a ≡ b
-same_number a b h = grind (arith, nat_tests)
-
 id_place : (machines : List (Option MachineSetup)) (place k : ℕ) (own : MachineSetup) → ids_are_places place machines ≡ true → slice_index_or machines k None ≡ Some own → own.id ≡ place + k
 id_place [] place k own h e = cc
 id_place (None ∷ machines) place zero own h e = cc
 id_place (None ∷ machines) place (suc k) own h e = let i = id_place machines (place + 1) k own h e in omega (arith, i)
 id_place (Some m ∷ machines) place zero own h e =
     let parts = and_parts (m.id == place) (ids_are_places (place + 1) machines) h in
-    let i : m.id ≡ place = same_number m.id place parts.0 in
+    let i : m.id ≡ place = eqb-true m.id place parts.0 in
     let same : m ≡ own = cc in
     let j : own.id ≡ m.id = ap (λ (x : MachineSetup). x.id) (sym same) in omega (arith, i, j)
 id_place (Some m ∷ machines) place (suc k) own h e =
