@@ -4,7 +4,7 @@ use Rattle.std.specs.Prelude.{option_map, codes, ok_or}
 use Rattle.std.specs.List.{prefix_len, list_all}
 use Rattle.std.specs.Char.{is_ascii_digit}
 use Rattle.std.specs.Str.{bytes_eq}
-use Rattle.std.proofs.lemmas.Bool.{and_parts, and_from, eqb-true, eqb-false, eq-eqb, or_from}
+use Rattle.std.proofs.lemmas.Bool.{and_parts, and_from, eqb-true, eqb-false, eq-eqb, or_from, both_ways, not-true}
 use Rattle.std.proofs.lemmas.List.{length-take-le, length-drop}
 use Rattle.pio_lex.specs.declared.fault.LexKind.{LexKind}
 use Rattle.pio_lex.specs.declared.fault.LexKind.TheVariants.{BadByte, BadNumber, OpenComment, OpenBlock}
@@ -102,14 +102,11 @@ all_le p (x ∷ xs) (suc m) le h =
 
 -- ---- the first byte of the other kinds of tokens
 
-not_both : (b : Bool) → b ≡ true → b ≡ false → ⊥
-not_both b e f = cc
-
 no_word : (b : ℕ) (ws : List ℕ) → is_name_byte b ≡ false → list_all is_name_byte (b ∷ ws) ≡ true → ⊥
-no_word b ws isnt h = not_both (is_name_byte b) (and_parts (is_name_byte b) (list_all is_name_byte ws) h).0 isnt
+no_word b ws isnt h = both_ways (is_name_byte b) isnt (and_parts (is_name_byte b) (list_all is_name_byte ws) h).0
 
 no_name_byte : (b c : ℕ) → is_name_byte b ≡ true → b ≡ c → is_name_byte c ≡ false → ⊥
-no_name_byte b c h e isnt = not_both (is_name_byte b) h (ap is_name_byte e ∙ isnt)
+no_name_byte b c h e isnt = both_ways (is_name_byte b) (ap is_name_byte e ∙ isnt) h
 
 no_pair : (b : ℕ) (ws : List ℕ) → is_name_byte b ≡ true → IsPair b ws → ⊥
 no_pair b ws h (inl p) = no_name_byte b 58 h p.0 refl
@@ -159,7 +156,7 @@ longest_directive b bs e = longer b bs (1 + prefix_len is_name_byte bs) (λ m lt
 nothing_after_dot : (b : ℕ) (bs : List ℕ) → b ≡ 46 → begins_name bs ≡ false → IsLongest (b ∷ bs) 0
 nothing_after_dot b bs e isnt = longer b bs 0 (λ m lt le s. no_shape b (take m bs)
     (λ h. no_word b (take m bs) (ap is_name_byte e) h)
-    (λ h. not_both (begins_name bs) (begins_too m bs h.1.0) isnt)
+    (λ h. both_ways (begins_name bs) isnt (begins_too m bs h.1.0))
     (λ h a. dot_is_no_mark b e a)
     (λ h. other_pair 46 b (take m bs) e (λ f. absurd (omega arith)) (λ f. absurd (omega arith)) (λ f. absurd (omega arith)) h)
     s)
@@ -192,9 +189,9 @@ pub record Apart (b : ℕ) (bs : List ℕ) : Type 0 where
   pub unequal : begins_with (codes "!=") (b ∷ bs) ≡ false
 
 apart_pair : (b : ℕ) (bs : List ℕ) (m : ℕ) → Apart b bs → m ≤ length bs → IsPair b (take m bs) → ⊥
-apart_pair b bs m a le (inl h) = not_both (begins_with (codes "::") (b ∷ bs)) (pair_begins b 58 58 m bs le h.0 h.1) a.colons
-apart_pair b bs m a le (inr (inl h)) = not_both (begins_with (codes "--") (b ∷ bs)) (pair_begins b 45 45 m bs le h.0 h.1) a.minuses
-apart_pair b bs m a le (inr (inr h)) = not_both (begins_with (codes "!=") (b ∷ bs)) (pair_begins b 33 61 m bs le h.0 h.1) a.unequal
+apart_pair b bs m a le (inl h) = both_ways (begins_with (codes "::") (b ∷ bs)) a.colons (pair_begins b 58 58 m bs le h.0 h.1)
+apart_pair b bs m a le (inr (inl h)) = both_ways (begins_with (codes "--") (b ∷ bs)) a.minuses (pair_begins b 45 45 m bs le h.0 h.1)
+apart_pair b bs m a le (inr (inr h)) = both_ways (begins_with (codes "!=") (b ∷ bs)) a.unequal (pair_begins b 33 61 m bs le h.0 h.1)
 
 longest_byte : (b : ℕ) (bs : List ℕ) → Apart b bs → IsLongest (b ∷ bs) 1
 longest_byte b bs a = longer b bs 1 (λ m lt le s. no_shape b (take m bs)
@@ -268,12 +265,9 @@ directive_nothing : (b : ℕ) (bs : List ℕ) → b ≡ 46 → directive_at (b �
 unfolding directive_at
 directive_nothing b bs dot e =
     elim (chosen (not (begins_name bs)) (Err BadByte) (Ok (kind.Directive (directive_of (word_of bs)), 1 + prefix_len is_name_byte bs)) (Err BadByte) e) [
-      | inl h ↦ nothing_after_dot b bs dot (not_true_is (begins_name bs) h.0)
+      | inl h ↦ nothing_after_dot b bs dot (not-true (begins_name bs) h.0)
       | inr h ↦ absurd (cc (h.1))
-    ] where
-      not_true_is : (t : Bool) → not t ≡ true → t ≡ false
-      not_true_is true q = absurd cc
-      not_true_is false q = refl
+    ]
 
 pub token_longest : (text : List ℕ) (k : TokenKind) (n : ℕ) → 0 < length text → token_at text ≡ Ok (k, n) → IsLongest text n
 unfolding token_at

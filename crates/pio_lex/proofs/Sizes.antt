@@ -3,7 +3,7 @@ use Rattle.std.proofs.Common.{◌≡◌, ℕ, ◌+◌, ◌<◌, ◌≤◌, ◌�
 use Rattle.std.specs.Prelude.{option_map, codes, ok_or}
 use Rattle.std.specs.List.{prefix_len}
 use Rattle.std.specs.Char.{is_ascii_digit}
-use Rattle.std.proofs.lemmas.Bool.{and_parts, or_cases, eqb-true}
+use Rattle.std.proofs.lemmas.Bool.{and_parts, or_cases, eqb-true, or_right}
 use Rattle.std.proofs.lemmas.List.{length-drop}
 use Rattle.std.proofs.lemmas.List.Sums.{prefix_len-le-length}
 use Rattle.std.proofs.lemmas.Option.{same_Some}
@@ -39,9 +39,6 @@ mapped : (k : ℕ) (o : Option ℕ) (n : ℕ) → option_map (λ m. m + k) o ≡
 mapped k None n e = absurd cc
 mapped k (Some m) n e = (m, refl, cc)
 
-some_is : (m n : ℕ) → Some m ≡ Some n → m ≡ n
-some_is m n e = cc
-
 -- a mark of two bytes needs two
 pair_fits : (a b : ℕ) (text : List ℕ) → begins_with (a ∷ b ∷ []) text ≡ true → 2 ≤ length text
 pair_fits a b [] e = absurd cc
@@ -56,7 +53,7 @@ unfolding through_close
 close_within [] n e = absurd cc
 close_within (b ∷ bs) n e =
     elim (chosen (begins_with (codes "*/") (b ∷ bs)) (Some 2) (option_map (λ m. m + 1) (through_close bs)) (Some n) e) [
-      | inl h ↦ let is = some_is 2 n h.1 in let fits = pair_fits 42 47 (b ∷ bs) h.0 in (omega arith, omega arith)
+      | inl h ↦ let is = same_Some 2 n h.1 in let fits = pair_fits 42 47 (b ∷ bs) h.0 in (omega arith, omega arith)
       | inr h ↦ let m = mapped 1 (through_close bs) n h.1 in let rest = close_within bs m.0 m.1 in let is = m.2 in (omega (arith, rest.0), omega (arith, rest.1))
     ]
 
@@ -74,7 +71,7 @@ unfolding block_length
 block_within [] n e = absurd cc
 block_within (b ∷ bs) n e =
     elim (chosen (is_newline b && closes_block bs) (Some (1 + line_length bs)) (option_map (λ m. m + 1) (block_length bs)) (Some n) e) [
-      | inl h ↦ let is = some_is (1 + line_length bs) n h.1 in let le = prefix_len-le-length (λ c. not (is_newline c)) bs in (omega arith, omega arith)
+      | inl h ↦ let is = same_Some (1 + line_length bs) n h.1 in let le = prefix_len-le-length (λ c. not (is_newline c)) bs in (omega arith, omega arith)
       | inr h ↦ let m = mapped 1 (block_length bs) n h.1 in let rest = block_within bs m.0 m.1 in let is = m.2 in (omega arith, omega (arith, rest.1))
     ]
 
@@ -138,10 +135,7 @@ pub letter_is_name_byte : (b : ℕ) → is_letter b ≡ true → is_name_byte b 
 letter_is_name_byte b e = ap (λ (t : Bool). t || is_ascii_digit b) e
 
 pub digit_is_name_byte : (b : ℕ) → is_ascii_digit b ≡ true → is_name_byte b ≡ true
-digit_is_name_byte b e = either (is_letter b) (is_ascii_digit b) e where
-  either : (s t : Bool) → t ≡ true → (s || t) ≡ true
-  either true t h = refl
-  either false t h = h
+digit_is_name_byte b e = or_right (is_letter b) (is_ascii_digit b) e
 
 directive_within : (text : List ℕ) (k : TokenKind) (n : ℕ) → 0 < length text → directive_at text ≡ Ok (k, n) → IsPieceLength n text
 unfolding directive_at

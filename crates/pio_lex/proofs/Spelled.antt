@@ -6,7 +6,7 @@ use Rattle.std.specs.Char.{is_ascii_digit}
 use Rattle.std.specs.Str.{bytes_eq}
 use Rattle.std.specs.Str.Parse.{digits_value}
 use Rattle.std.proofs.Math.Seq.{take-add}
-use Rattle.std.proofs.lemmas.Bool.{and_parts, and_from, eqb-true, leb-true}
+use Rattle.std.proofs.lemmas.Bool.{and_parts, and_from, eqb-true, leb-true, not-false}
 use Rattle.std.proofs.lemmas.List.{length-drop}
 use Rattle.std.proofs.lemmas.List.Elements.{All-nil, All-append, All-cons}
 use Rattle.std.proofs.lemmas.List.Sums.{take_while-cons}
@@ -71,13 +71,10 @@ spelled_directive text token lt dot e =
       | inl h ↦ absurd (cc (h.1))
       | inr h ↦
           let whole : take (1 + prefix_len is_name_byte rest) text ≡ 46 ∷ word = one_and (prefix_len is_name_byte rest) 46 text lt dot in
-          let named : begins_name rest ≡ true = not_false (begins_name rest) h.0 in
+          let named : begins_name rest ≡ true = not-false (begins_name rest) h.0 in
           let base : IsSpelling (kind.Directive d) (46 ∷ word) = (refl, word_is rest named, refl) in
           subst (Spells text) (ok_is (kind.Directive d, 1 + prefix_len is_name_byte rest) token h.1) (subst (IsSpelling (kind.Directive d)) (sym whole) base)
-    ] where
-      not_false : (b : Bool) → not b ≡ false → b ≡ true
-      not_false true h = refl
-      not_false false h = absurd cc
+    ]
 
 within_is : (m n : ℕ) → within m ≡ Some n → n ≤ 2147483647
 within_is m n e = within_by (leb m 2147483647) refl e where
