@@ -1,6 +1,6 @@
 -- Which write of a clock counts, pin by pin.
-use Rattle.std.proofs.Common.{◌≡◌, ℕ, ◌+◌, ◌-◌, ◌^◌, ◌<◌, ◌≤◌, min, max, cond, eqb, List, [], ◌∷◌, ◌++◌, length, get_or, drop, refl, ap, ◌∙◌, inl, inr, arith, w32, add-one, drop-cons, bit_and, bit_or, Bool, false}
-use Rattle.std.proofs.lemmas.Bool.{cases_eq}
+use Rattle.std.proofs.Common.{◌≡◌, ℕ, ◌+◌, ◌-◌, ◌^◌, ◌<◌, ◌≤◌, min, max, cond, eqb, List, [], ◌∷◌, ◌++◌, length, get_or, drop, refl, ap, ◌∙◌, inl, inr, arith, w32, add-one, drop-cons, bit_and, bit_or}
+use Rattle.std.proofs.lemmas.Bool.{cases_eq, cond-false}
 use Rattle.std.proofs.lemmas.Bool.Decides.{nat_tests}
 use Rattle.std.proofs.lemmas.Nat.{or_lt, and_le_l}
 use Rattle.std.proofs.lemmas.Nat.Bits.{bit_at_and, bit_at_or, bit_at_not, bit_at-zero, bit_at-lt}
@@ -23,10 +23,6 @@ merged-past old ws i all = rw (drop_of_length-le ws all) refl
 chosen : (pin bit old : ℕ) → pin < 2 → bit ≤ pin → old < 2 → max bit (min old (1 - pin)) ≡ cond (eqb pin 1) bit old
 chosen pin bit old p q r = grind (arith, nat_tests)
 
--- what a test that fails picks
-unless : (b : Bool) (x y : ℕ) → b ≡ false → cond b x y ≡ y
-unless b x y fails = rw fails refl
-
 -- one write
 bit_at-written : (p old : ℕ) (w : ℕ × ℕ) → p < 32 → IsWrite w → bit_at (written old w) p ≡ cond (eqb (bit_at w.0 p) 1) (bit_at w.1 p) (bit_at old p)
 bit_at-written p old w inside write =
@@ -36,7 +32,7 @@ bit_at-written p old w inside write =
           let made : bit_at (bit_or w.1 (bit_and old (2 ^ 32 - 1 - w.0))) p ≡ max (bit_at w.1 p) (min (bit_at old p) (1 - bit_at w.0 p)) =
           bit_at_or w.1 (bit_and old (2 ^ 32 - 1 - w.0)) p
           ∙ ap (max (bit_at w.1 p)) (bit_at_and old (2 ^ 32 - 1 - w.0) p ∙ ap (min (bit_at old p)) (bit_at_not w32 w.0 p write.pins inside)) in
-          ap (λ m. bit_at m p) (unless (eqb w.0 0) old (bit_or w.1 (bit_and old (2 ^ 32 - 1 - w.0))) (grind (arith, nat_tests))) ∙ made
+          ap (λ m. bit_at m p) (cond-false (eqb w.0 0) old (bit_or w.1 (bit_and old (2 ^ 32 - 1 - w.0))) (grind (arith, nat_tests))) ∙ made
           ∙ chosen (bit_at w.0 p) (bit_at w.1 p) (bit_at old p) (bit_at-lt w.0 p) (write.within p) (bit_at-lt old p)
     ]
 
@@ -72,7 +68,7 @@ written-lt old w word write =
     elim (cases_eq w.0 0) [
       | inl none ↦ rw none word
       | inr some ↦
-          rw (unless (eqb w.0 0) old (bit_or w.1 (bit_and old (2 ^ 32 - 1 - w.0))) (grind (arith, nat_tests)))
+          rw (cond-false (eqb w.0 0) old (bit_or w.1 (bit_and old (2 ^ 32 - 1 - w.0))) (grind (arith, nat_tests)))
           (or_lt 32 w.1 (bit_and old (2 ^ 32 - 1 - w.0)) write.bits (omega (arith, and_le_l old (2 ^ 32 - 1 - w.0))))
     ]
 

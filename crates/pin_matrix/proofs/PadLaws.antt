@@ -1,6 +1,6 @@
 -- What is on the pads and what a machine sees, pin by pin and over the whole history.
 use Rattle.std.proofs.Common.{◌≡◌, ℕ, ◌-◌, ◌^◌, ◌<◌, min, max, cond, eqb, List, [], ◌∷◌, length, refl, sym, ap, ◌∙◌, inl, inr, arith, w32, if◌then◌else◌, slice_index_or, ◌==◌, bit_and, bit_or, Bool, true, false}
-use Rattle.std.proofs.lemmas.Bool.{cases_eq}
+use Rattle.std.proofs.lemmas.Bool.{cases_eq, cond-false}
 use Rattle.std.proofs.lemmas.Bool.Decides.{nat_tests}
 use Rattle.std.proofs.lemmas.Nat.{or_lt, and_le_l}
 use Rattle.std.proofs.lemmas.Nat.Bits.{bit_at_and, bit_at_or, bit_at_not, bit_at-zero, bit_at-lt, same_from_bits_below}
@@ -16,10 +16,6 @@ chosen_late by now late p q r = grind (arith, nat_tests)
 
 masked : (word mask p : ℕ) → mask < 2 ^ 32 → p < 32 → min (bit_at word p) (1 - bit_at mask p) ≡ min (bit_at word p) (bit_at (2 ^ 32 - 1 - mask) p)
 masked word mask p below inside = ap (min (bit_at word p)) (sym (bit_at_not w32 mask p below inside))
-
--- what a test that fails picks
-unless : (b : Bool) (x y : ℕ) → b ≡ false → cond b x y ≡ y
-unless b x y fails = rw fails refl
 
 -- The pads.
 pub bit_at-pads_of : (level direction outside p : ℕ) → direction < 2 ^ 32 → p < 32 → bit_at (pads_of level direction outside) p ≡ (if bit_at direction p == 1 then bit_at level p else bit_at outside p)
@@ -39,7 +35,7 @@ bit_at-seen_of bypass pad pad_2 p below inside =
     elim (cases_eq bypass 0) [
       | inl none ↦ rw none (rw (bit_at-zero p) refl)
       | inr some ↦
-          ap (λ m. bit_at m p) (unless (eqb bypass 0) pad_2 (bit_or (bit_and pad_2 (2 ^ 32 - 1 - bypass)) (bit_and pad bypass)) (grind (arith, nat_tests)))
+          ap (λ m. bit_at m p) (cond-false (eqb bypass 0) pad_2 (bit_or (bit_and pad_2 (2 ^ 32 - 1 - bypass)) (bit_and pad bypass)) (grind (arith, nat_tests)))
           ∙ bit_at_or (bit_and pad_2 (2 ^ 32 - 1 - bypass)) (bit_and pad bypass) p
           ∙ ap (λ m. max m (bit_at (bit_and pad bypass) p)) (bit_at_and pad_2 (2 ^ 32 - 1 - bypass) p ∙ sym (masked pad_2 bypass p below inside))
           ∙ ap (max (min (bit_at pad_2 p) (1 - bit_at bypass p))) (bit_at_and pad bypass p)
@@ -55,7 +51,7 @@ seen_of-lt bypass pad pad_2 p q =
     elim (cases_eq bypass 0) [
       | inl none ↦ rw none q
       | inr some ↦
-          rw (unless (eqb bypass 0) pad_2 (bit_or (bit_and pad_2 (2 ^ 32 - 1 - bypass)) (bit_and pad bypass)) (grind (arith, nat_tests)))
+          rw (cond-false (eqb bypass 0) pad_2 (bit_or (bit_and pad_2 (2 ^ 32 - 1 - bypass)) (bit_and pad bypass)) (grind (arith, nat_tests)))
           (or_lt 32 (bit_and pad_2 (2 ^ 32 - 1 - bypass)) (bit_and pad bypass)
           (omega (arith, and_le_l pad_2 (2 ^ 32 - 1 - bypass))) (omega (arith, and_le_l pad bypass)))
     ]

@@ -1,7 +1,6 @@
 -- Where each bit of a word turned round, and of its low bits, comes from.
-use Rattle.std.proofs.Common.{◌≡◌, ℕ, ◌+◌, ◌-◌, ◌*◌, ◌/◌, ◌%◌, ◌^◌, ◌<◌, ◌≤◌, Bool, true, false, nat_lt, cond, sym, ap, ◌∙◌, inl, inr, arith}
-use Rattle.std.proofs.lemmas.Bool.{cases_lt}
-use Rattle.std.proofs.lemmas.Bool.Decides.{nat_tests}
+use Rattle.std.proofs.Common.{◌≡◌, ℕ, ◌+◌, ◌-◌, ◌*◌, ◌/◌, ◌%◌, ◌^◌, ◌<◌, ◌≤◌, nat_lt, cond, sym, ap, ◌∙◌, inl, inr, arith}
+use Rattle.std.proofs.lemmas.Bool.{cases_lt, cond_below, cond_above}
 use Rattle.std.proofs.lemmas.Nat.{pow_pos, shr_split, shr-shr, shr_below, mod_below}
 use Rattle.std.proofs.lemmas.Nat.Bits.{bit_at_cat_low, bit_at_cat_high, bit_at_above}
 use Rattle.std.proofs.Math.Nat.{add_comm}
@@ -49,18 +48,11 @@ bit_at-counted word base i below turn inside =
 pub rotated_right-lt : (word n : ℕ) → word < 2 ^ 32 → n ≤ 32 → rotated_right word n < 2 ^ 32
 rotated_right-lt word n below turn = joined-lt word (word % 2 ^ n) n below turn (mod_below word (2 ^ n) (pow_pos n))
 
--- what a test that holds, or doesn't, picks
-when : (b : Bool) (x y v : ℕ) → b ≡ true → v ≡ x → v ≡ cond b x y
-when b x y v holds e = rw holds e
-
-unless : (b : Bool) (x y v : ℕ) → b ≡ false → v ≡ y → v ≡ cond b x y
-unless b x y v fails e = rw fails e
-
 -- The low n bits of a word.
 pub bit_at-mod : (word n i : ℕ) → bit_at (word % 2 ^ n) i ≡ cond (nat_lt i n) (bit_at word i) 0
 bit_at-mod word n i =
     elim (cases_lt i n) [
-      | inl low ↦ when (nat_lt i n) _ _ _ (grind (arith, nat_tests)) (bit_at-low word n i low)
-      | inr high ↦ unless (nat_lt i n) _ _ _ (grind (arith, nat_tests))
+      | inl low ↦ bit_at-low word n i low ∙ cond_below i n _ _ low
+      | inr high ↦ cond_above i n _ _ _ high
           (bit_at_above (word % 2 ^ n) n i (mod_below word (2 ^ n) (pow_pos n)) high)
     ]

@@ -2,13 +2,13 @@
 use Rattle.std.proofs.Common.{◌≡◌, ℕ, zero, suc, ◌<◌, ◌≤◌, ℤ, Bool, true, false, List, [], ◌∷◌, ◌++◌, length, take, Option, Some, None, Result, refl, ap, sym, subst, ◌∙◌, ◌⊎◌, inl, inr, arith, nat_eq, slice_get}
 use Rattle.std.proofs.lemmas.List.{take-append-le}
 use Rattle.std.proofs.Math.Seq.{take-append_seam}
+use Rattle.std.proofs.lemmas.Option.{same_Some}
 use Rattle.pio_expr.specs.declared.expr.Item.{Item}
 use Rattle.pio_expr.specs.declared.symbol.Symbol.TheVariants.{Define, Label}
 use Rattle.pio_expr.specs.declared.fault.ValueKind.{ValueKind}
 use Rattle.pio_expr.specs.Values.{Scope, Found, found, is_among, by_symbol, name_value}
 use Rattle.pio_expr.specs.Frames.{Kept, kept_at, kept_value, by_kept, number, look_by, looked_up, Agrees, AgreesBy, AreKept, IsKeptAt}
 use Rattle.pio_expr.proofs.Keeping.{Apart, at_none, at_label, at_cycle, all_exact}
-use Rattle.pio_expr.proofs.Lookups.{some_same}
 
 -- the values of the definition agree
 agree_by : (scope : Scope) (kept : Kept) (n : ℕ) (under : List ℕ) (local : Bool) (name : List ℕ) → AreKept scope kept → length kept ≤ n → Apart under kept → (f : Found) → found scope local name ≡ f
@@ -70,7 +70,7 @@ pushed_none (e ∷ es) place q v h other = by (nat_eq q e.0) refl (pushed_none e
   by false t rest = rw t (rest (rw t at h) other)
 
 pushed_at : {X : Type 0} (xs : List X) (x : X) (i : ℕ) (y : X) → slice_get (xs ++ x ∷ []) i ≡ Some y → ((i < length xs) × (slice_get xs i ≡ Some y)) ⊎ ((i ≡ length xs) × (x ≡ y))
-pushed_at [] x zero y h = inr (refl, some_same h)
+pushed_at [] x zero y h = inr (refl, same_Some _ _ h)
 pushed_at [] x (suc i) y h = let no : None ≡ Some y = h in cc
 pushed_at (z ∷ xs) x zero y h = inl (omega arith, h)
 pushed_at {X} (z ∷ xs) x (suc i) y h = by (pushed_at xs x i y h) where

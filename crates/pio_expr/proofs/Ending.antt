@@ -3,7 +3,7 @@ use Rattle.std.proofs.Common.{◌≡◌, ℕ, suc, ◌+◌, ◌-◌, ◌<◌, �
 use Rattle.std.specs.List.{list_any, IsDistinct}
 use Rattle.std.specs.Map.{keys_of}
 use Rattle.std.specs.Result.{result_transpose}
-use Rattle.std.proofs.lemmas.Bool.{eqb-true, eq-eqb}
+use Rattle.std.proofs.lemmas.Bool.{eqb-true, eq-eqb, or_parts}
 use Rattle.std.proofs.lemmas.List.{length-append, map-append}
 use Rattle.std.proofs.lemmas.List.Folds.{list_any-append}
 use Rattle.std.proofs.lemmas.Map.Keys.{IsDistinct-tail, IsDistinct-push}
@@ -22,7 +22,7 @@ use Rattle.std.proofs.lemmas.Map.Steps.{length-le_from_distinct_below}
 use Rattle.std.proofs.lemmas.Cmp.{nat_eq_equiv}
 use Rattle.pio_expr.proofs.Keeping.{kept_exact}
 use Rattle.pio_expr.proofs.Agreeing.{agrees_kept, agrees_fewer, IsMore, pushed_some, pushed_none, kept_pushed}
-use Rattle.pio_expr.proofs.Framing.{head_new, or_left, or_right, not_key, not_kept, keys_length, frame_value, value_of_whole}
+use Rattle.pio_expr.proofs.Framing.{head_new, not_key, not_kept, keys_length, frame_value, value_of_whole}
 use Rattle.pio_expr.proofs.Stepping.{Shown, defined, seen_new}
 
 -- a new place goes last
@@ -69,7 +69,7 @@ module _ (scope : Scope) (kept : Kept) (items : List Item) (p : ℕ) (v : ℤ) w
 
   out_below : (o : Option ℕ) (places : List ℕ) → is_among (placed o places) p ≡ false → is_among places p ≡ false
   out_below None places h = h
-  out_below (Some q) places h = or_right (nat_eq p q) (is_among places p) h
+  out_below (Some q) places h = (or_parts (nat_eq p q) (is_among places p) h).1
 
   frames_kept : (frames : List StackFrame) → is_among (places_of frames) p ≡ false → AreFrames scope kept items frames → AreFrames scope (kept ++ (p, v) ∷ []) items frames
   frames_kept [] out h = tt
@@ -105,12 +105,12 @@ left_by_symbol : (scope : Scope) (kept : Kept) (items : List Item) (p : ℕ) (v 
 left_by_symbol scope kept items p v below begun is frames seen same gives =
     let places = places_of below in
     let new : (list_any (nat_eq p) places || list_any (nat_eq p) (keys_of kept)) ≡ false = sym (list_any-append (nat_eq p) places (keys_of kept)) ∙ head_new p (places ++ keys_of kept) seen.distinct in
-    let none : kept_at kept p ≡ None = not_kept kept p (or_right (list_any (nat_eq p) places) (list_any (nat_eq p) (keys_of kept)) new) in
+    let none : kept_at kept p ≡ None = not_kept kept p (or_parts (list_any (nat_eq p) places) (list_any (nat_eq p) (keys_of kept)) new).1 in
     let same_p : nat_eq p p ≡ true = eq-eqb p p refl in
     let within : p < count_of scope = seen.within p (rw same_p refl) in
     record {
       is_kept = kept_pushed scope kept p v is (record { within = within; gives = gives });
-      frames = frames_kept scope kept items p v below (or_left (list_any (nat_eq p) places) (list_any (nat_eq p) (keys_of kept)) new) frames;
+      frames = frames_kept scope kept items p v below (or_parts (list_any (nat_eq p) places) (list_any (nat_eq p) (keys_of kept)) new).0 frames;
       seen = seen_kept scope kept places p v seen;
       begun_on = λ q h. same q (unkept_before kept p q v h) ∙ ap (λ b. b || is_among places q) (unkept_other kept p q v none h);
       as_many = ap (λ xs. length xs) (seen_pushed kept places p v) ∙ length-append (places ++ keys_of kept) (p ∷ []) ∙ omega arith;
@@ -122,7 +122,7 @@ left_by scope kept kept' items None v below begun is frames seen same gives new 
     subst (λ es. IsLeft scope kept es items None below begun) (sym new) (record { is_kept = is; frames = frames; seen = seen; begun_on = same; as_many = refl })
 left_by scope kept kept' items (Some p) v below begun is frames seen same gives new =
     let apart : (list_any (nat_eq p) (places_of below) || list_any (nat_eq p) (keys_of kept)) ≡ false = sym (list_any-append (nat_eq p) (places_of below) (keys_of kept)) ∙ head_new p (places_of below ++ keys_of kept) seen.distinct in
-    let none : kept_at kept p ≡ None = not_kept kept p (or_right (list_any (nat_eq p) (places_of below)) (list_any (nat_eq p) (keys_of kept)) apart) in
+    let none : kept_at kept p ≡ None = not_kept kept p (or_parts (list_any (nat_eq p) (places_of below)) (list_any (nat_eq p) (keys_of kept)) apart).1 in
     subst (λ es. IsLeft scope kept es items (Some p) below begun) (sym (new ∙ inserted kept p v none)) (left_by_symbol scope kept items p v below begun is frames seen same gives)
 
 -- the end of the top frame

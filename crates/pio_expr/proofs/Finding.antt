@@ -1,6 +1,6 @@
 -- What a look-up finds is at its place.
 use Rattle.std.proofs.Common.{◌≡◌, ℕ, zero, suc, ◌+◌, ◌<◌, Bool, true, false, List, [], ◌∷◌, ◌++◌, length, Option, Some, None, refl, ap, ◌∙◌, arith, slice_get, option_map}
-use Rattle.std.proofs.lemmas.Option.{slice_get_within}
+use Rattle.std.proofs.lemmas.Option.{slice_get_within, same_Some}
 use Rattle.std.proofs.lemmas.List.{length-append}
 use Rattle.std.specs.Str.{bytes_eq}
 use Rattle.pio_expr.specs.declared.expr.Item.{Item}
@@ -9,7 +9,6 @@ use Rattle.pio_expr.specs.declared.symbol.Symbol.TheVariants.{Define}
 use Rattle.pio_expr.specs.Values.{Symbols, Scope, Found, found, found_in, or_global, program_of, count_of, own_place, IsOwnTo}
 use Rattle.pio_expr.specs.Frames.{items_at, items_by, symbol_at}
 use Rattle.pio_expr.specs.Work.{IsOwn}
-use Rattle.pio_expr.proofs.Lookups.{some_same}
 
 symbol_in : Symbols → ℕ → Option Symbol
 symbol_in symbols i = option_map (λ s. s.1) (slice_get symbols i)
@@ -37,7 +36,7 @@ is_at first (x ∷ symbols) name place s h = by (bytes_eq name x.0) refl (is_at 
 
   by : (b : Bool) → bytes_eq name x.0 ≡ b → (found_in (first + 1) symbols name ≡ Some (place, s) → IsAt symbols (first + 1) place s) → IsAt (x ∷ symbols) first place s
   by true t rest =
-      let same : ◌≡◌ {A = ℕ × Symbol} (first, x.1) (place, s) = some_same (rw t at h) in
+      let same : ◌≡◌ {A = ℕ × Symbol} (first, x.1) (place, s) = same_Some _ _ (rw t at h) in
       let p : first ≡ place = ap (λ y. y.0) same in
       (0, omega (arith, p), ap (λ y. Some y.1) same)
   by false t rest = further (rest (rw t at h))

@@ -2,7 +2,7 @@
 use Rattle.std.proofs.Common.{◌≡◌, ℕ, suc, ◌+◌, ◌-◌, ◌≤◌, ℤ, Bool, true, false, List, [], ◌∷◌, ◌++◌, length, Option, Some, None, Result, Ok, Err, refl, ap, sym, ◌∙◌, ◌||◌, arith, nat_eq, true≢false}
 use Rattle.std.specs.List.{list_any, IsDistinct, AllByRecursion}
 use Rattle.std.specs.Map.{keys_of}
-use Rattle.std.proofs.lemmas.Bool.{eqb-true}
+use Rattle.std.proofs.lemmas.Bool.{eqb-true, or_parts, or_right}
 use Rattle.std.proofs.lemmas.List.{length-append}
 use Rattle.std.proofs.lemmas.List.Folds.{list_any-append}
 use Rattle.std.proofs.lemmas.Map.Keys.{IsDistinct-tail, IsDistinct-head}
@@ -34,19 +34,6 @@ all_none p (x ∷ xs) h = by (nat_eq p x) refl (all_none p xs) where
 pub head_new : (p : ℕ) (xs : List ℕ) → IsDistinct nat_eq (p ∷ xs) → list_any (nat_eq p) xs ≡ false
 head_new p xs h = any_none p xs (IsDistinct-head nat_eq p xs h)
 
--- a part of a disjunction that is false
-pub or_left : (a b : Bool) → (a || b) ≡ false → a ≡ false
-or_left false b h = refl
-or_left true b h = absurd (true≢false h)
-
-pub or_right : (a b : Bool) → (a || b) ≡ false → b ≡ false
-or_right false b h = h
-or_right true b h = absurd (true≢false h)
-
-pub or_there : (a b : Bool) → b ≡ true → (a || b) ≡ true
-or_there true b h = refl
-or_there false b h = h
-
 -- a place that isn't kept
 pub not_kept : (kept : Kept) (q : ℕ) → list_any (nat_eq q) (keys_of kept) ≡ false → kept_at kept q ≡ None
 not_kept [] q h = refl
@@ -69,7 +56,7 @@ apart kept (p ∷ places) h q e = by (nat_eq q p) refl (apart kept places (IsDis
   by : (b : Bool) → nat_eq q p ≡ b → (is_among places q ≡ true → kept_at kept q ≡ None) → kept_at kept q ≡ None
   by true t rest =
       let new : (list_any (nat_eq p) places || list_any (nat_eq p) (keys_of kept)) ≡ false = sym (list_any-append (nat_eq p) places (keys_of kept)) ∙ head_new p (places ++ keys_of kept) h in
-      ap (λ x. kept_at kept x) (eqb-true q p t) ∙ not_kept kept p (or_right _ _ new)
+      ap (λ x. kept_at kept x) (eqb-true q p t) ∙ not_kept kept p (or_parts _ _ new).1
   by false t rest = rest (rw t at e)
 
 -- they and the kept ones are no more than there are symbols
@@ -83,7 +70,7 @@ keys_length (e ∷ es) = let rest = keys_length es in omega (arith, rest)
 -- without the newest
 pub seen_below : (scope : Scope) (kept : Kept) (o : Option ℕ) (places : List ℕ) → AreSeen scope (placed o places ++ keys_of kept) → AreSeen scope (places ++ keys_of kept)
 seen_below scope kept None places seen = seen
-seen_below scope kept (Some p) places seen = record { distinct = IsDistinct-tail nat_eq p (places ++ keys_of kept) seen.distinct; within = λ q h. seen.within q (or_there (nat_eq q p) (list_any (nat_eq q) (places ++ keys_of kept)) h) }
+seen_below scope kept (Some p) places seen = record { distinct = IsDistinct-tail nat_eq p (places ++ keys_of kept) seen.distinct; within = λ q h. seen.within q (or_right (nat_eq q p) (list_any (nat_eq q) (places ++ keys_of kept)) h) }
 
 -- what the definition gives for the expression of the top frame
 abbrev pub frame_value : Scope → List Item → Option ℕ → List ℕ → Result ℤ ValueKind
@@ -111,7 +98,7 @@ fault_met scope kept items local places numbers fault (Some p) (item.Name name �
     let fit = seen_fit scope kept (p ∷ places) seen in
     let one : count_of scope - length places ≡ suc (count_of scope - length (p ∷ places)) = omega (arith, fit) in
     let new : (list_any (nat_eq p) places || list_any (nat_eq p) (keys_of kept)) ≡ false = sym (list_any-append (nat_eq p) places (keys_of kept)) ∙ head_new p (places ++ keys_of kept) seen.distinct in
-    let met : name_value (count_of scope - length places) scope places local name ≡ Err fault = ap (λ n. name_value n scope places local name) one ∙ at_define scope places local name (count_of scope - length (p ∷ places)) p (items_at scope p) awaited (or_left _ _ new) ∙ h in
+    let met : name_value (count_of scope - length places) scope places local name ≡ Err fault = ap (λ n. name_value n scope places local name) one ∙ at_define scope places local name (count_of scope - length (p ∷ places)) p (items_at scope p) awaited (or_parts _ _ new).0 ∙ h in
     ends_in (name_value (count_of scope - length places) scope places local) (item.Name name) rest numbers fault met
 fault_met scope kept items local places numbers fault (Some p) [] awaited seen h = absurd awaited
 fault_met scope kept items local places numbers fault (Some p) (i ∷ rest) awaited seen h = absurd awaited

@@ -2,6 +2,7 @@
 use Rattle.std.proofs.Common.{◌≡◌, ℕ, zero, suc, ◌≤◌, ℤ, pos, Bool, true, false, List, [], ◌∷◌, length, take, Option, Some, None, Result, Ok, Err, refl, ap, sym, subst, ◌∙◌, ◌⊎◌, inl, inr, arith, nat_eq, slice_get, true≢false}
 use Rattle.std.proofs.lemmas.Bool.{eqb-true}
 use Rattle.std.proofs.Math.Seq.{take-length}
+use Rattle.std.proofs.lemmas.Option.{same_Some}
 use Rattle.pio_expr.specs.declared.expr.Item.{Item}
 use Rattle.pio_expr.specs.declared.expr.Item.TheVariants as item
 use Rattle.pio_expr.specs.declared.symbol.Symbol.TheVariants.{Define, Label}
@@ -10,7 +11,6 @@ use Rattle.pio_expr.specs.declared.fault.ValueKind.TheVariants.{Unknown, Cycle}
 use Rattle.pio_expr.specs.Values.{Scope, Found, found, in_program, is_among, number_by, left_by, worked_out, by_symbol, name_value}
 use Rattle.pio_expr.specs.Frames.{Kept, kept_at, kept_value, by_kept, items_at, AreKept}
 use Rattle.pio_expr.proofs.Workings.{goes_on, ends_in}
-use Rattle.pio_expr.proofs.Lookups.{some_same}
 use Rattle.pio_expr.proofs.Finding.{items_of_found}
 
 -- a value among some kept ones and the next is among the former, or it is the next
@@ -23,7 +23,7 @@ newest (e ∷ es) zero place v h = by (nat_eq place e.0) refl where
   by : (b : Bool) → nat_eq place e.0 ≡ b → Newest (e ∷ es) 0 place v
   by true t =
       let p : e.0 ≡ place = sym (eqb-true place e.0 t) in
-      let q : e.1 ≡ v = some_same (rw t at h) in
+      let q : e.1 ≡ v = same_Some _ _ (rw t at h) in
       inr (refl, (λ i. Some (p i, q i)))
   by false t = let no : None ≡ Some v = rw t at h in cc
 newest (e ∷ es) (suc m) place v h = by (nat_eq place e.0) refl (newest es m place v) where

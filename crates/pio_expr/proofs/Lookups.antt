@@ -1,5 +1,6 @@
 -- What a map by name finds is the first symbol of the name.
 use Rattle.std.proofs.Common.{◌≡◌, ℕ, zero, suc, ◌+◌, ◌<◌, Bool, true, false, List, [], ◌∷◌, Option, Some, None, refl, ap, ◌∙◌, arith, slice_get, get_or, string_bytes}
+use Rattle.std.proofs.lemmas.Option.{same_Some}
 use Rattle.std.specs.Map.{lookup, keys_of}
 use Rattle.std.specs.Str.{bytes_eq}
 use Rattle.std.specs.declared.string.String.{String}
@@ -7,12 +8,6 @@ use Rattle.std.specs.declared.alloc.Global.{Global}
 use Rattle.pio_expr.specs.declared.symbol.Symbol.{Symbol}
 use Rattle.pio_expr.specs.Values.{found_in}
 use Rattle.pio_expr.specs.Views.{named_in}
-
-pub some_same : {X : Type 0} {x y : X} → Some x ≡ Some y → x ≡ y
-some_same {X} {x} {y} h = ap (unwrap_or_x x) h where
-  unwrap_or_x : X → Option X → X
-  unwrap_or_x d (Some v) = v
-  unwrap_or_x d None = d
 
 -- a name that no key is
 pub none_found : (name : List ℕ) (first : ℕ) (es : List (String Global × Symbol)) → lookup (λ k. bytes_eq name (string_bytes k)) es ≡ None → found_in first (named_in es) name ≡ None
@@ -37,7 +32,7 @@ pub first_found : (name : List ℕ) (first : ℕ) (es : List (String Global × S
 unfolding found_in
 first_found name first [] i k s h t before = cc
 first_found name first (e ∷ es) zero k s h t before =
-    let same : e ≡ (k, s) = some_same h in
+    let same : e ≡ (k, s) = same_Some _ _ h in
     let it : bytes_eq name (string_bytes e.0) ≡ true = rw same t in
     let back : first + 0 ≡ first = omega arith in
     rw (it, back) (ap (λ p. Some (first, p.1)) same)
@@ -49,5 +44,5 @@ first_found name first (e ∷ es) (suc i) k s h t before =
 -- the key at a place
 pub own_key : (es : List (String Global × Symbol)) (i : ℕ) (k : String Global) (s : Symbol) → slice_get es i ≡ Some (k, s) → get_or (keys_of es) i k ≡ k
 own_key [] i k s h = cc
-own_key (e ∷ es) zero k s h = ap (λ p. p.0) (some_same h)
+own_key (e ∷ es) zero k s h = ap (λ p. p.0) (same_Some _ _ h)
 own_key (e ∷ es) (suc i) k s h = own_key es i k s h

@@ -1,6 +1,6 @@
 -- What reading a token where an operand is wanted leaves to read.
 use Rattle.std.proofs.Common.{◌≡◌, ℕ, ◌+◌, ◌<◌, Bool, true, false, List, [], ◌∷◌, ◌++◌, length, Option, Some, None, Result, Ok, Err, refl, ap, sym, ◌∙◌, subst, cond, nat_lt, slice_get}
-use Rattle.std.proofs.lemmas.Bool.{ltb-true, ltb-false}
+use Rattle.std.proofs.lemmas.Bool.{ltb-true, ltb-false, true≢false}
 use Rattle.std.proofs.lemmas.Option.{slice_get_within, get_or_from_slice_get}
 use Rattle.std.specs.List.{All}
 use Rattle.pio_lex.specs.Tokens.{IsTokenOf}
@@ -107,9 +107,7 @@ turn_inside tokens kept m at turn is f goes = by_less (nat_lt at (length tokens)
   by_less false h =
       let other : m ≡ mark.Other = sym is ∙ no_mark tokens at (ltb-false at (length tokens) h) in
       let g : goes_on_turn turn ≡ false = ap goes_on_turn (f ∙ ap (λ k. turn_by (operation_of k) (innermost kept) k at) other) ∙ no_turn (innermost kept) at in
-      absurd (true_false (sym goes ∙ g)) where
-        true_false : true ≡ false → ⊥
-        true_false e = cc
+      absurd (true≢false (sym goes ∙ g))
 
 pub operation_inside : (tokens : List Token) (kept : List Waiting) (m : TokenMark) (at : ℕ) (w : Waiting) → mark_at tokens at ≡ m → Ok (Operation w) ≡ turn_by (operation_of m) (innermost kept) m at → at < length tokens
 unfolding goes_on_turn

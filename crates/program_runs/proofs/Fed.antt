@@ -2,7 +2,7 @@
 use Rattle.std.proofs.Common.{◌≡◌, ◌==◌, ℕ, zero, suc, ◌+◌, ◌≤◌, Bool, true, false, not, cond, nat_lt, None, option_to_list, List, [], ◌∷◌, ◌++◌, length, slice_get, slice_index_or, refl, sym, ap, subst, ◌∙◌, arith, append_assoc}
 use Rattle.std.proofs.Math.ListN.{get_or-map}
 use Rattle.std.proofs.lemmas.Bool.Decides.{nat_tests}
-use Rattle.std.proofs.lemmas.Bool.{le-leb}
+use Rattle.std.proofs.lemmas.Bool.{le-leb, ltb-false}
 use Rattle.fifo_pair.specs.Fifos.{queued, less_front, if_room, is_full, settled}
 use Rattle.pin_matrix.specs.declared.machine.MachineSetup.{MachineSetup}
 use Rattle.pin_matrix.specs.declared.setup.Setup.{Setup}
@@ -12,7 +12,7 @@ use Rattle.dreq_pacing.specs.declared.line.Line.{Line}
 use Rattle.dreq_pacing.specs.declared.due.Requests.{Requests}
 use Rattle.dreq_pacing.specs.Lines.{lines_in}
 use Rattle.dreq_pacing.specs.Due.{quiet, with_lines}
-use Rattle.dreq_pacing.specs.Transfers.{Feeding, Paced, begun, fed_word, feed_moves, has_words}
+use Rattle.dreq_pacing.specs.Transfers.{Feeding, begun, fed_word}
 use Rattle.dreq_pacing.specs.Transfers as transfers
 use Rattle.dreq_pacing.specs.Ports.{tx_ready, either_word, due_in, transfers_after}
 use Rattle.block_core.specs.Slots.{settled_slot}
@@ -48,9 +48,6 @@ full_stays true (x ∷ y ∷ tx) l e = cc
 full_stays false [] l e = omega (arith, l)
 full_stays false (x ∷ tx) l e = cc
 
-lt_false : (a b : ℕ) → nat_lt a b ≡ false → b ≤ a
-lt_false a b h = grind (arith, nat_tests)
-
 is_moved : (take : Bool) (tx words : List ℕ) (clock every due : ℕ) → every ≤ 1 → due ≤ clock → IsMoved take 4 tx clock (record { words = words; every = every; due = due })
 is_moved take tx words clock every due few past = by (nat_lt (length tx) 4) refl words where
   by : (room : Bool) → nat_lt (length tx) 4 ≡ room → (ws : List ℕ) → IsMoved take 4 tx clock (record { words = ws; every = every; due = due })
@@ -68,7 +65,7 @@ is_moved take tx words clock every due few past = by (nat_lt (length tx) 4) refl
   }
   by false e ws = record {
     goes = rw e (front_and_rest take tx ws);
-    dry = rw e (λ q. absurd (full_stays take tx (lt_false (length tx) 4 e) q));
+    dry = rw e (λ q. absurd (full_stays take tx (ltb-false (length tx) 4 e) q));
     every = rw e refl;
     due = rw e (omega (arith, past));
   }

@@ -1,7 +1,6 @@
 -- Where each bit of a shifted register comes from.
-use Rattle.std.proofs.Common.{◌≡◌, ℕ, ◌+◌, ◌-◌, ◌*◌, ◌/◌, ◌%◌, ◌^◌, ◌<◌, ◌≤◌, Bool, true, false, nat_lt, cond, sym, ap, ◌∙◌, inl, inr, arith}
-use Rattle.std.proofs.lemmas.Bool.{cases_lt}
-use Rattle.std.proofs.lemmas.Bool.Decides.{nat_tests}
+use Rattle.std.proofs.Common.{◌≡◌, ℕ, ◌+◌, ◌-◌, ◌*◌, ◌/◌, ◌%◌, ◌^◌, ◌<◌, ◌≤◌, true, false, nat_lt, cond, sym, ap, ◌∙◌, inl, inr, arith}
+use Rattle.std.proofs.lemmas.Bool.{cases_lt, cond_below, cond_above}
 use Rattle.std.proofs.lemmas.Nat.{pow_pos, shr_split, shr-shr, shr_below, mod_below}
 use Rattle.std.proofs.lemmas.Nat.Bits.{bit_at_cat_low, bit_at_cat_high, bit_at_above, bit_at-zero}
 use Rattle.std.proofs.Math.Nat.{add_comm}
@@ -24,21 +23,14 @@ bit_at-above_low high low n i small up = ap (λ m. bit_at m i) (add_comm low (hi
 bit_at-below_high : (high low n i : ℕ) → i < n → bit_at (low + high * 2 ^ n) i ≡ bit_at low i
 bit_at-below_high high low n i inside = ap (λ m. bit_at m i) (add_comm low (high * 2 ^ n)) ∙ bit_at_cat_low high n low i inside
 
--- What a test that holds, or doesn't, picks.
-when : (b : Bool) (x y v : ℕ) → b ≡ true → v ≡ x → v ≡ cond b x y
-when b x y v holds e = rw holds e
-
-unless : (b : Bool) (x y v : ℕ) → b ≡ false → v ≡ y → v ≡ cond b x y
-unless b x y v fails e = rw fails e
-
 -- An IN to the right: the ISR comes down by n, and the source is above it.
 pub bit_at-in_right : (isr source n i : ℕ) → isr < 2 ^ 32 → n ≤ 32 → i < 32 → bit_at (shifted_in isr source n true) i ≡ cond (nat_lt (i + n) 32) (bit_at isr (i + n)) (bit_at source (i + n - 32))
 bit_at-in_right isr source n i word count inside =
     elim (cases_lt (i + n) 32) [
-      | inl low ↦ when (nat_lt (i + n) 32) _ _ _ (grind (arith, nat_tests))
+      | inl low ↦
           (let place : n + i ≡ i + n = omega arith in
-          bit_at-below_high (source % 2 ^ n) (isr / 2 ^ n) (32 - n) i (omega arith) ∙ bit_at-down isr n i ∙ ap (bit_at isr) place)
-      | inr high ↦ unless (nat_lt (i + n) 32) _ _ _ (grind (arith, nat_tests))
+          bit_at-below_high (source % 2 ^ n) (isr / 2 ^ n) (32 - n) i (omega arith) ∙ bit_at-down isr n i ∙ ap (bit_at isr) place) ∙ cond_below (i + n) 32 _ _ low
+      | inr high ↦ cond_above (i + n) 32 _ _ _ high
           (let whole : (32 - n) + n ≡ 32 = omega arith in
           let split : 2 ^ ((32 - n) + n) ≡ 2 ^ 32 = ap (λ m. 2 ^ m) whole in
           let place : i - (32 - n) ≡ i + n - 32 = omega arith in
@@ -52,9 +44,9 @@ pub bit_at-in_left : (isr source n i : ℕ) → i < 32 → bit_at (shifted_in is
 bit_at-in_left isr source n i inside =
     let cut = bit_at-low (isr * 2 ^ n + source % 2 ^ n) 32 i inside in
     elim (cases_lt i n) [
-      | inl low ↦ when (nat_lt i n) _ _ _ (grind (arith, nat_tests))
-          (cut ∙ bit_at_cat_low isr n (source % 2 ^ n) i low ∙ bit_at-low source n i low)
-      | inr high ↦ unless (nat_lt i n) _ _ _ (grind (arith, nat_tests))
+      | inl low ↦
+          cut ∙ bit_at_cat_low isr n (source % 2 ^ n) i low ∙ bit_at-low source n i low ∙ cond_below i n _ _ low
+      | inr high ↦ cond_above i n _ _ _ high
           (cut ∙ bit_at_cat_high isr n (source % 2 ^ n) i (mod_below source (2 ^ n) (pow_pos n)) high)
     ]
 
@@ -62,8 +54,8 @@ bit_at-in_left isr source n i inside =
 pub bit_at-out_right : (osr n i : ℕ) → bit_at (shifted_out osr n true).0 i ≡ cond (nat_lt i n) (bit_at osr i) 0
 bit_at-out_right osr n i =
     elim (cases_lt i n) [
-      | inl low ↦ when (nat_lt i n) _ _ _ (grind (arith, nat_tests)) (bit_at-low osr n i low)
-      | inr high ↦ unless (nat_lt i n) _ _ _ (grind (arith, nat_tests))
+      | inl low ↦ bit_at-low osr n i low ∙ cond_below i n _ _ low
+      | inr high ↦ cond_above i n _ _ _ high
           (bit_at_above (osr % 2 ^ n) n i (mod_below osr (2 ^ n) (pow_pos n)) high)
     ]
 
@@ -82,8 +74,8 @@ bit_at-rest_left osr n i inside =
     let whole : osr * 2 ^ n ≡ osr * 2 ^ n + 0 = omega arith in
     let moved = cut ∙ ap (λ m. bit_at m i) whole in
     elim (cases_lt i n) [
-      | inl low ↦ when (nat_lt i n) _ _ _ (grind (arith, nat_tests))
-          (moved ∙ bit_at_cat_low osr n 0 i low ∙ bit_at-zero i)
-      | inr high ↦ unless (nat_lt i n) _ _ _ (grind (arith, nat_tests))
+      | inl low ↦
+          moved ∙ bit_at_cat_low osr n 0 i low ∙ bit_at-zero i ∙ cond_below i n _ _ low
+      | inr high ↦ cond_above i n _ _ _ high
           (moved ∙ bit_at_cat_high osr n 0 i (pow_pos n) high)
     ]

@@ -1,5 +1,5 @@
 -- From visit to visit in a run: each is bad for no cause, or the span is broken.
-use Rattle.std.proofs.Common.{◌≡◌, ◌==◌, ℕ, zero, suc, ◌+◌, ◌*◌, ◌≤◌, ◌⊎◌, Bool, true, false, cond, Option, Some, None, is_some, List, inl, inr, refl, sym, subst, ◌∙◌, arith}
+use Rattle.std.proofs.Common.{◌≡◌, ◌==◌, ℕ, zero, suc, ◌+◌, ◌*◌, ◌≤◌, ◌⊎◌, Bool, true, false, cond, Option, Some, None, is_some, List, inl, inr, refl, sym, subst, ◌∙◌, arith, add-zero}
 use Rattle.std.specs.Option.{option_map}
 use Rattle.std.proofs.lemmas.Bool.Decides.{nat_tests}
 use Rattle.clock_divider.specs.Timing as timing
@@ -62,9 +62,7 @@ long_period s = on (s.int == 0) refl where
 module _ (levels : AreLevels) (tested : IsTested) (sp : Span) (s : MachineSetup) (memory : List ℕ) (seen : ℕ → ℕ) (host : ℕ → Due) (states : ℕ → BlockState) (simple : IsSimple sp) (free : IsFree (marks_over sp memory seen host states)) (run : IsRun sp s memory seen host states) where
   wait : (most d c : ℕ) (w : Watch) (address ticks : ℕ) → is_tick 0 (timing.period_of s.int s.frac) (c + d) ≡ true → IsAt sp s most (marks_over sp memory seen host states) (states c) c w address ticks
       → IsDue sp s most (marks_over sp memory seen host states) states w address ticks
-  wait most zero c w address ticks e g = record { clock = c; tick = subst (λ n. is_tick 0 (timing.period_of s.int s.frac) n ≡ true) (still c) e; at = g } where
-    still : (n : ℕ) → n + 0 ≡ n
-    still n = omega arith
+  wait most zero c w address ticks e g = record { clock = c; tick = subst (λ n. is_tick 0 (timing.period_of s.int s.frac) n ≡ true) (add-zero c) e; at = g }
   wait most (suc d) c w address ticks e g =
       waited (is_tick 0 (timing.period_of s.int s.frac) c) refl (λ none. wait most d (suc c) w address ticks (subst (λ n. is_tick 0 (timing.period_of s.int s.frac) n ≡ true) (next c d) e)
       (idle_clock levels sp s most memory seen host states c w address ticks simple (run.after c) run.id none g)) where

@@ -1,5 +1,6 @@
 -- The ages of a least closed table are in range: with those out of range cut off, a closed table is closed.
 use Rattle.std.proofs.Common.{◌≡◌, ℕ, ◌+◌, ◌<◌, ◌≤◌, ◌==◌, nat_le, min, cond, Bool, true, false, List, [], ◌∷◌, map, refl, sym, ap, subst, ◌∙◌, arith}
+use Rattle.std.proofs.Math.Nat.{le-min}
 use Rattle.std.proofs.lemmas.Bool.{eq-eqb}
 use Rattle.std.proofs.lemmas.Bool.Decides.{nat_tests}
 use Rattle.pin_matrix.specs.Followed.{followed}
@@ -61,12 +62,9 @@ within_fixed m (Between l g) (Between lo hi) h k i =
     let order : l ≤ g = h in
     let most : g ≤ m = k.1 in
     let e : nat_le lo (min hi m) ≡ true = test lo l g hi m low high order most in
-    rw e (low, top g hi m high most) where
+    rw e (low, le-min high most) where
       test : (lo l g hi m : ℕ) → lo ≤ l → g ≤ hi → l ≤ g → g ≤ m → nat_le lo (min hi m) ≡ true
       test lo l g hi m p q r s = let t : lo ≤ min hi m = omega arith in grind (arith, nat_tests)
-
-      top : (g hi m : ℕ) → g ≤ hi → g ≤ m → g ≤ min hi m
-      top g hi m p q = omega arith
 
 -- ages inside what is left of them are in range
 told_by : (b : Bool) (m lo hi : ℕ) → nat_le lo (min hi m) ≡ b → m ≤ 16777216 → IsInside (Between lo hi) (cond b (Between lo (min hi m)) Empty) → IsAgeRange (Between lo hi)

@@ -1,6 +1,6 @@
 -- How long the lines of rows are, and how many rows a table may have.
-use Rattle.std.proofs.Common.{◌≡◌, ℕ, ◌+◌, ◌*◌, ◌^◌, ◌<◌, ◌≤◌, nat_lt, Bool, true, false, List, [], ◌∷◌, length, length-append, decimal, refl, ap, ◌∙◌, arith}
-use Rattle.std.proofs.lemmas.Bool.Decides.{nat_tests}
+use Rattle.std.proofs.Common.{◌≡◌, ℕ, ◌+◌, ◌*◌, ◌^◌, ◌<◌, ◌≤◌, Bool, true, false, List, [], ◌∷◌, length, length-append, decimal, refl, ap, ◌∙◌, arith}
+use Rattle.std.proofs.lemmas.Bool.{ltb-true}
 use Rattle.std.proofs.lemmas.Nat.{mul-le}
 use Rattle.pin_matrix.specs.declared.assume.Follow.{Follow}
 use Rattle.span_step.specs.Contexts.{Context, is_placed}
@@ -48,10 +48,8 @@ rows_within : HaveNumbers → (d : Follow) (n : ℕ) (rows : List Row) → n ≤
 rows_within law d n [] l h = omega (arith, l)
 rows_within law d n (r ∷ rows) l h =
     let below = law d r.context h.0 in
-    let from : n < number_of d r.context + 1 = on h.1.0 in
-    omega (arith, from, rows_within law d (number_of d r.context + 1) rows (omega (arith, below)) h.1.1) where
-      on : {n m : ℕ} → nat_lt n m ≡ true → n < m
-      on e = grind (arith, nat_tests)
+    let from : n < number_of d r.context + 1 = ltb-true _ _ h.1.0 in
+    omega (arith, from, rows_within law d (number_of d r.context + 1) rows (omega (arith, below)) h.1.1)
 
 bounded : (n : ℕ) → n ≤ 137443147808 → 4 * n ≤ 2 ^ 40
 bounded n l = omega (arith, l)
