@@ -22,27 +22,21 @@ use Rattle.block_core.proofs.Showing.{still_shows}
 use Rattle.block_core.proofs.Unused.{StaysQuiet}
 use Rattle.block_core.proofs.MergedWants.{IsStep, view, run, nothing_added, next_run, any_used}
 
--- which places are empty never changes
-after_is_empty : (v : View) (d : Due) (s : Option Slot) → is_none s ≡ is_none (place_after v d s)
+-- which places are empty never changes: in a clock, over a leap, and from the setup on
+pub empty_same : {A B : Type 0} (f : Option A → Option B) → ((s : Option A) → is_none s ≡ is_none (f s)) → {b c e : Option A} {s t u : Option B} → s ≡ f b → t ≡ f c → u ≡ f e → are_empty b c e ≡ are_empty s t u
+empty_same f same {b} {c} {e} g h i = rw (g, h, i, same b, same c, same e) refl
+
+pub after_is_empty : (v : View) (d : Due) (s : Option Slot) → is_none s ≡ is_none (place_after v d s)
 after_is_empty v d None = refl
 after_is_empty v d (Some s) = refl
 
-pub empty_after : (v : View) (d : Due) (b c e s t u : Option Slot) → s ≡ place_after v d b → t ≡ place_after v d c → u ≡ place_after v d e → are_empty b c e ≡ are_empty s t u
-empty_after v d b c e s t u f g h = rw (f, g, h, after_is_empty v d b, after_is_empty v d c, after_is_empty v d e) refl
-
-leapt_is_empty : (n : ℕ) (s : Option Slot) → is_none s ≡ is_none (leapt_place n s)
+pub leapt_is_empty : (n : ℕ) (s : Option Slot) → is_none s ≡ is_none (leapt_place n s)
 leapt_is_empty n None = refl
 leapt_is_empty n (Some s) = refl
 
-pub empty_leapt : (n : ℕ) (b c e s t u : Option Slot) → s ≡ leapt_place n b → t ≡ leapt_place n c → u ≡ leapt_place n e → are_empty b c e ≡ are_empty s t u
-empty_leapt n b c e s t u f g h = rw (f, g, h, leapt_is_empty n b, leapt_is_empty n c, leapt_is_empty n e) refl
-
-first_is_empty : (m : Option MachineSetup) → is_none m ≡ is_none (option_map first_slot m)
+pub first_is_empty : (m : Option MachineSetup) → is_none m ≡ is_none (option_map first_slot m)
 first_is_empty None = refl
 first_is_empty (Some setup) = refl
-
-pub empty_first : (l m n : Option MachineSetup) (s t u : Option Slot) → s ≡ option_map first_slot l → t ≡ option_map first_slot m → u ≡ option_map first_slot n → are_empty l m n ≡ are_empty s t u
-empty_first l m n s t u f g h = rw (f, g, h, first_is_empty l, first_is_empty m, first_is_empty n) refl
 
 pub record AllEmpty (b c e : Option Slot) : Type 0 where
   pub second : b ≡ None

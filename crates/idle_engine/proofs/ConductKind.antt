@@ -12,7 +12,7 @@ use Rattle.block_core.specs.Hosted.{Hosted, due_of, hosted_at}
 use Rattle.block_core.specs.Leaps.{leapt}
 use Rattle.block_core.specs.Shown.{requests_of}
 use Rattle.block_core.specs.Stirring.{moves_on}
-use Rattle.idle_engine.specs.Kinds.{AreFirsts, IsCalm, IsCourse, IsKind, IsUntil}
+use Rattle.idle_engine.specs.Kinds.{AreFirsts, IsCalm, IsCourse, IsKind}
 use Rattle.idle_engine.specs.One.{one}
 use Rattle.idle_engine.specs.OneConduct.{Conducting, conducting_from, conducting_next, one_conduct}
 use Rattle.idle_engine.proofs.OneKind.{QuietDue, QuietTransfers, asked-next, does_nothing, one-kind}
@@ -69,15 +69,6 @@ conduct-calm h n asks rests calm none = record {
       ∙ ap (λ (q : Requests). acts_in l m q h.hosted.transfers) (ap (λ (r : Run). requests_of r.state) (rests j le) ∙ asks h.hosted.run j);
   shows = λ j le. last_from h j (λ k lt. none k (omega (arith, lt, le)));
   rests = λ j lt. moves_from h j ∙ calm j lt;
-}
-
--- a test that agrees with another
-pub until-same : (f g : ℕ → Bool) (end from until : ℕ) → ((n : ℕ) → g n ≡ f n) → IsUntil f end from until → IsUntil g end from until
-until-same f g end from until same u = record {
-  ahead = u.ahead;
-  within = u.within;
-  rests = λ c low below. same c ∙ u.rests c low below;
-  passes = λ early. same until ∙ u.passes early;
 }
 
 -- from ports at clock 0 on

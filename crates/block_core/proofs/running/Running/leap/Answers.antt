@@ -1,8 +1,8 @@
 use Rattle.std.proofs.Common.{[], ◌∷◌, ap, ◌∙◌}
-use Rattle.block_core.specs.Leaps.{leapt}
+use Rattle.block_core.specs.Leaps.{leapt, leapt_place}
 use Rattle.block_core.proofs.LeaptPlaces.{are_calm, in_step_leapt, leapt_run}
 use Rattle.block_core.proofs.Showing.{sample_leapt}
-use Rattle.block_core.proofs.SimpleSteps.{empty_leapt}
+use Rattle.block_core.proofs.SimpleSteps.{empty_same, leapt_is_empty}
 use Rattle.block_core.proofs.PlacesTold.{told_leapt}
 use Rattle.block_core.proofs.running.Running.leap.Goals as goal
 
@@ -40,5 +40,5 @@ invariant_of-self g c =
         fourth = in_step_leapt _ _ _ _ kept.fourth c.leap-4.ensures;
       },
       sample_leapt c.self.invariant.1 _ _ _ _ _ c.leap.ensures c.leap-2.ensures c.leap-3.ensures c.leap-4.ensures,
-      record { alone = c.self.invariant.2.alone ∙ empty_leapt _ _ _ _ _ _ _ c.leap-2.ensures c.leap-3.ensures c.leap-4.ensures; ready = λ h. cc },
+      record { alone = c.self.invariant.2.alone ∙ empty_same (leapt_place _) (leapt_is_empty _) c.leap-2.ensures c.leap-3.ensures c.leap-4.ensures; ready = λ h. cc },
     )

@@ -5,7 +5,7 @@ use Rattle.block_core.specs.Merging.{with_intent}
 use Rattle.block_core.specs.Slots.{doing, place_after, place_intent, place_uses_fifos}
 use Rattle.block_core.proofs.Showing.{shows_first, shows_second, shows_third, shows_fourth, first_new, second_new, third_new, fourth_new, pins_new}
 use Rattle.block_core.proofs.PlacesTold.{all_in_step}
-use Rattle.block_core.proofs.SimpleSteps.{empty_after}
+use Rattle.block_core.proofs.SimpleSteps.{empty_same, after_is_empty}
 use Rattle.block_core.proofs.MergedWants.{next_run, any_used}
 use Rattle.block_core.proofs.running.Running.step_all.Goals as goal
 
@@ -42,7 +42,7 @@ invariant_of-self g c =
       all_in_step law.after law.more _ _ _ _ memory c.self.invariant.0 c.step-by_first.ensures.after c.step-by_second.ensures.after c.step-by_third.ensures.after c.step-used.ensures.after,
       pins_new four _ _ _ _,
       record {
-        alone = c.self.invariant.2.alone ∙ empty_after _ _ _ _ _ _ _ _ c.step-by_second.ensures.after c.step-by_third.ensures.after c.step-used.ensures.after;
+        alone = c.self.invariant.2.alone ∙ empty_same (place_after _ _) (after_is_empty _ _) c.step-by_second.ensures.after c.step-by_third.ensures.after c.step-used.ensures.after;
         ready = λ h. cc;
       },
     )
