@@ -68,14 +68,16 @@ pub(crate) fn step<F: Fifo>(
     let Some(slot) = slot else {
         return used;
     };
-    match due {
-        None
-            if slot
-                .simple_clock(view, &mut wanted.outputs, false)
-                .is_done() => used,
-        None => used | quiet_tick(slot, view, wanted, place, sample),
-        Some(due) => used | due_step(slot, view, due, wanted, place, sample),
-    }
+    let Some(due) = due else {
+        if slot
+            .simple_clock(view, &mut wanted.outputs, false)
+            .is_done()
+        {
+            return used;
+        }
+        return used | quiet_tick(slot, view, wanted, place, sample);
+    };
+    used | due_step(slot, view, due, wanted, place, sample)
 }
 
 /// A tick of a machine in a clock in which the system does nothing. It is one piece of code, which all four call.

@@ -204,17 +204,18 @@ impl<F: Fifo> Running<F> {
         self.wanted.begin();
         let view = View::new(&self.shared, pad);
         let (wanted, sample) = (&mut self.wanted, &mut self.sample);
-        let first = step(&mut self.first, &view, due, wanted, 0, sample, false);
-        let second = step(&mut self.second, &view, due, wanted, 1, sample, first);
-        let third = step(&mut self.third, &view, due, wanted, 2, sample, second);
-        let fourth = step(&mut self.fourth, &view, due, wanted, 3, sample, third);
+        // Whether a FIFO was used, by this machine or one before it.
+        let by_first = step(&mut self.first, &view, due, wanted, 0, sample, false);
+        let by_second = step(&mut self.second, &view, due, wanted, 1, sample, by_first);
+        let by_third = step(&mut self.third, &view, due, wanted, 2, sample, by_second);
+        let used = step(&mut self.fourth, &view, due, wanted, 3, sample, by_third);
         self.shared.sync.step(pad);
         self.wanted.merge_flags(&mut self.shared.flags);
         self.sample.level = self.wanted.outputs.levels;
         self.sample.direction = self.wanted.outputs.directions;
         self.sample.flags = self.shared.flags.up;
         self.clock += 1;
-        fourth
+        used
     }
 
     /// Whether these pads, of the present clock, are not those of both clocks before.

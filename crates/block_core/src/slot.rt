@@ -71,6 +71,8 @@ impl<F: Fifo> Slot<F> {
         })
     }
 
+    // `simple_clock` is in `running/quiet.rt`.
+
     /// One clock, in which the system does this. It returns what the machine wants of its block, and whether it or the
     /// system did anything at its FIFOs.
     #[inline(always)]

@@ -32,7 +32,7 @@ twin_after start first second n = twin_of (hosted_twin_at start first second n)
 
 -- What a trace is after a run, from whatever it was ready for before.
 abbrev pub FromReady : {V : Type 0} → (ready : Option (List ℕ) → Type 0) → (is : Option (List ℕ) → List V → Bool → Type 0) → List V → Bool → Type 0
-FromReady ready is told ended = (b : Option (List ℕ)) → ready b → is b told ended
+FromReady ready is told ended = (before : Option (List ℕ)) → ready before → is before told ended
 
 -- What was taken of the text of some, without its end, is a first part of the whole text of these and any later ones.
 abbrev pub PartStays : {V : Type 0} → (before taken : Option (List ℕ)) → (text : List V → Bool → List ℕ) → Type 0

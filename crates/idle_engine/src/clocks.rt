@@ -4,9 +4,17 @@ ghost use Rattle.idle_engine.specs.Kinds.{IsUntil, IsCalm};
 
 use crate::kind::Runs;
 
-/// Works out one clock of a run that ends before `end`. The system does nothing up to `until`, so before that clock the ports
-/// aren't asked. The result is that clock as seen from the next one, which is the same where nobody did anything at a FIFO, and
-/// whether what is shown may be new.
+/// What one clock leaves to the clocks after it.
+#[derive(Clone, Copy)]
+pub(crate) struct Stepped {
+    /// The clock up to which the system does nothing, or the end.
+    pub until: u64,
+    /// Whether what is shown may be new.
+    pub is_new: bool,
+}
+
+/// Works out one clock, before the run's `end`. The system does nothing up to `until`, so before that clock the ports aren't
+/// asked. The result's `until` is that clock as seen from the next one, which is the same where nobody did anything at a FIFO.
 // A part of each run's loop: as a call of its own it costs a fifth of the instructions of a clock with its text.
 #[inline(always)]
 pub(crate) fn step<V, P, R: Runs<V, P>>(
@@ -15,7 +23,7 @@ pub(crate) fn step<V, P, R: Runs<V, P>>(
     clock: u64,
     until: u64,
     end: u64,
-) -> (u64, bool)
+) -> Stepped
     requires clock { R.kind.in_clock (R.hosted runs.old ports.old) clock }
     requires inside { clock < end }
     requires within { end ≤ 10 ^ 12 }
@@ -26,21 +34,30 @@ pub(crate) fn step<V, P, R: Runs<V, P>>(
     ensures lines { R.lines ports.new ≡ R.lines ports.old }
     ensures may_ask { R.may_ask ports.new (clock + 1) }
     ensures until { IsUntil (R.kind.acts (R.lines ports.new) (R.hosted runs.new ports.new))
-        end (clock + 1) result.0 }
-    ensures shown { result.1 ≡ false
+        end (clock + 1) result.until }
+    ensures shown { result.is_new ≡ false
         → R.kind.shown (R.hosted runs.new ports.new) ≡ R.kind.shown (R.hosted runs.old ports.old) }
     ensures calls { R.calls runs.new ≡ R.calls runs.old + 1 }
 {
     runs.is_of_its_kind(ports);
     if clock >= until {
         runs.asked_clock(ports, clock);
-        return (runs.next_due(ports, clock + 1, end), true);
+        return Stepped {
+            until: runs.next_due(ports, clock + 1, end),
+            is_new: true,
+        };
     }
     let news = runs.quiet_clock(ports, clock);
     if news.fifos {
-        (runs.next_due(ports, clock + 1, end), news.shown)
+        Stepped {
+            until: runs.next_due(ports, clock + 1, end),
+            is_new: news.shown,
+        }
     } else {
-        (until, news.shown)
+        Stepped {
+            until,
+            is_new: news.shown,
+        }
     }
 }
 

@@ -20,6 +20,9 @@ use sample_trace::{Trace, TraceFailed};
 use std::sync::ledger::Ledger;
 use step_count::Steps;
 
+// The four calls differ in `ok`, `run` and `err` alone, and in which block or blocks they are of; that of conducts has no `err`.
+// A trace's clauses are said from what its sink had taken before (`FromReady`).
+
 /// Runs a block for some clocks, with a stimulus that begins in clock 0, and tells a trace the sample of each clock
 /// and that the samples end there.
 ///
@@ -185,10 +188,10 @@ fn run<V: Drop, P, R: Runs<V, P>, T: Trace<V>, L: Ledger>(
     let mut until = runs.next_due(ports, 0, clocks);
     let mut clock = 0;
     'clocks: while clock < clocks {
-        let (next, is_new) = step(runs, ports, clock, until, clocks);
-        until = next;
+        let stepped = step(runs, ports, clock, until, clocks);
+        until = stepped.until;
         steps.count();
-        tell(trace, clock, runs, ports, is_new | (clock == 0))?;
+        tell(trace, clock, runs, ports, stepped.is_new | (clock == 0))?;
         clock = leap(runs, ports, clock + 1, until);
     }
     trace.end(clocks)
@@ -205,10 +208,10 @@ fn tell<V: Drop, P, R: Runs<V, P>, T: Trace<V>>(
 ) -> Result<(), TraceFailed>
     requires { T.has_failed trace.old ≡ false }
     ensures again { is_new ≡ false → trace.new ≡ trace.old }
-    ensures ok { is_new ≡ true → OnOk result ((b : Option (List ℕ)) (l : List V) → T.holds trace.old b l false
-        → IsNext l clock → T.holds trace.new b (told_at clock (R.kind.shown (R.hosted runs.now ports.now)) l) false) }
-    ensures err { OnErr result ((b : Option (List ℕ)) (l : List V) → T.holds trace.old b l false
-        → IsNext l clock → T.broken trace.new b (told_at clock (R.kind.shown (R.hosted runs.now ports.now)) l) false) }
+    ensures ok { is_new ≡ true → OnOk result ((before : Option (List ℕ)) (l : List V) → T.holds trace.old before l false
+        → IsNext l clock → T.holds trace.new before (told_at clock (R.kind.shown (R.hosted runs.now ports.now)) l) false) }
+    ensures err { OnErr result ((before : Option (List ℕ)) (l : List V) → T.holds trace.old before l false
+        → IsNext l clock → T.broken trace.new before (told_at clock (R.kind.shown (R.hosted runs.now ports.now)) l) false) }
     ensures cause { PutCounts (T.faults trace.old) (T.faults trace.new) result }
     ensures failed { T.has_failed trace.new ≡ is_err result }
     ensures same { T.name trace.new ≡ T.name trace.old }

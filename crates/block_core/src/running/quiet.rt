@@ -24,6 +24,7 @@ impl<F: Fifo> Running<F> {
     {
         a_calm_tick_tells_nothing_new();
         a_quiet_clock_changes_nothing();
+        // `ready` is of an only machine too (`AreKnown`). It is tested first, as it holds most often.
         if self.known.ready || self.known.alone {
             if let Some(first) = &mut self.first {
                 let view = View::new(&self.shared, pad);

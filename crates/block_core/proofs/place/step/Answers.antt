@@ -8,19 +8,19 @@ use Rattle.block_core.proofs.SimpleClocks.{adds_pins, uses_none}
 use Rattle.block_core.proofs.MergedWants.{unused}
 use Rattle.block_core.proofs.place.step.Goals as goal
 
-pub returns-in-None-clause-wanted : goal.returns-in-None-clause-wanted
-returns-in-None-clause-wanted g c =
+pub returns-then-is_done-clause-wanted : goal.returns-then-is_done-clause-wanted
+returns-then-is_done-clause-wanted g c =
     let simple = c.simple_clock.ensures.done (sym c.is_done.ensures ∙ c.if-is_done.true) in
-    rw (c.in-None.is, c.in-Some.is)
+    rw (c.in_default-due.is, c.in-Some.is)
     (adds_pins c.args.wanted.now c.simple_clock.new.outputs (slot_intent c.args.view.now quiet c.in-Some.slot) simple.outputs simple.wants)
 
-pub returns-in-None-clause-used : goal.returns-in-None-clause-used
-returns-in-None-clause-used g c =
+pub returns-then-is_done-clause-used : goal.returns-then-is_done-clause-used
+returns-then-is_done-clause-used g c =
     let simple = c.simple_clock.ensures.done (sym c.is_done.ensures ∙ c.if-is_done.true) in
-    rw (c.in-None.is, c.in-Some.is) (unused c.args.used (uses_none c.args.view.now c.in-Some.slot simple.wants))
+    rw (c.in_default-due.is, c.in-Some.is) (unused c.args.used (uses_none c.args.view.now c.in-Some.slot simple.wants))
 
-pub returns-in-None-clause-sample : goal.returns-in-None-clause-sample
-returns-in-None-clause-sample g c =
+pub returns-then-is_done-clause-sample : goal.returns-then-is_done-clause-sample
+returns-then-is_done-clause-sample g c =
     let v = c.args.view.now in
     let simple = c.simple_clock.ensures.done (sym c.is_done.ensures ∙ c.if-is_done.true) in
     still_shows c.a_quiet_clock_changes_nothing.ensures c.args.place v quiet c.in-Some.slot c.simple_clock.new.self c.args.sample.now
@@ -28,5 +28,5 @@ returns-in-None-clause-sample g c =
     (subst (λ s. Shows c.args.place s c.args.sample.now) c.in-Some.is c.requires.shows)
 
 -- as the search finds it; a wrong body is refused at once
-pub returns-in-None-2-clause-used : goal.returns-in-None-2-clause-used
-returns-in-None-2-clause-used g c = search rules steps 300000
+pub returns-in_default-due-clause-used : goal.returns-in_default-due-clause-used
+returns-in_default-due-clause-used g c = search rules steps 300000

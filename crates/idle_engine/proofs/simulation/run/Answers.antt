@@ -46,15 +46,15 @@ clocks-init g c =
       worked = omega arith;
     }
 
-pub step-next-requires-clause-clock : goal.step-next-requires-clause-clock
-step-next-requires-clause-clock g c =
+pub step-stepped-requires-clause-clock : goal.step-stepped-requires-clause-clock
+step-stepped-requires-clause-clock g c =
     let inv = c.clocks.invariant in
     subst (λ (h : g.R.Runs.Hosted). g.R.Runs.kind.in_clock h c.clocks.clock) (sym inv.run) (inv.clocks_at c.clocks.clock)
 
 pub leap-clock-requires-clause-clock : goal.leap-clock-requires-clause-clock
 leap-clock-requires-clause-clock g c =
     let inv = c.clocks.invariant in
-    let run = course-next inv.is_course c.clocks.clock inv.run inv.lines c.step-next.ensures.run in
+    let run = course-next inv.is_course c.clocks.clock inv.run inv.lines c.step-stepped.ensures.run in
     subst (λ (h : g.R.Runs.Hosted). g.R.Runs.kind.in_clock h (c.clocks.clock + 1)) (sym run) (inv.clocks_at (c.clocks.clock + 1))
 
 pub returns-in_err-tell-clause-err : goal.returns-in_err-tell-clause-err
@@ -63,7 +63,7 @@ returns-in_err-tell-clause-err g c =
     let inv = c.clocks.invariant in
     let k = g.R.Runs.kind in
     let n = c.clocks.clock in
-    let run = course-next inv.is_course n inv.run inv.lines c.step-next.ensures.run in
+    let run = course-next inv.is_course n inv.run inv.lines c.step-stepped.ensures.run in
     let s = shown-next k course n _ _ run refl in
     on_err c.from_residual-in_err-tell.result (record {
       count = n + 1;
@@ -87,16 +87,16 @@ returns-in_err-tell-clause-most g c =
     omega (arith, inv.worked, one, more, c.count.ensures)
 
 -- the run after the clocks that were leapt over
-run_after : (g : Over) (c : goal.After-leap-clock g) → IsAfterLeap g.R.Runs.kind (g.R.Runs.lines c.args.ports.now) (g.R.Runs.course c.args.runs.now c.args.ports.now) c.clocks.clock c.leap-clock.result c.step-next.result.0 c.args.clocks (g.R.Runs.hosted c.leap-clock.new.runs c.step-next.new.ports)
+run_after : (g : Over) (c : goal.After-leap-clock g) → IsAfterLeap g.R.Runs.kind (g.R.Runs.lines c.args.ports.now) (g.R.Runs.course c.args.runs.now c.args.ports.now) c.clocks.clock c.leap-clock.result c.step-stepped.result.until c.args.clocks (g.R.Runs.hosted c.leap-clock.new.runs c.step-stepped.new.ports)
 run_after g c =
     let course = g.R.Runs.course c.args.runs.now c.args.ports.now in
     let inv = c.clocks.invariant in
     let k = g.R.Runs.kind in
     let lines = g.R.Runs.lines c.args.ports.now in
-    let run = course-next inv.is_course c.clocks.clock inv.run inv.lines c.step-next.ensures.run in
-    let own : g.R.Runs.lines c.step-next.new.ports ≡ lines = c.step-next.ensures.lines ∙ inv.lines in
-    let until = subst (λ (l : g.R.Runs.Lines). IsUntil (k.acts l (g.R.Runs.hosted c.step-next.new.runs c.step-next.new.ports)) c.args.clocks (c.clocks.clock + 1) c.step-next.result.0) own c.step-next.ensures.until in
-    after_leap k c.is_of_its_kind.ensures.kind lines _ course inv.is_course inv.clocks_at c.clocks.clock c.leap-clock.result c.step-next.result.0 c.args.clocks _ _ run
+    let run = course-next inv.is_course c.clocks.clock inv.run inv.lines c.step-stepped.ensures.run in
+    let own : g.R.Runs.lines c.step-stepped.new.ports ≡ lines = c.step-stepped.ensures.lines ∙ inv.lines in
+    let until = subst (λ (l : g.R.Runs.Lines). IsUntil (k.acts l (g.R.Runs.hosted c.step-stepped.new.runs c.step-stepped.new.ports)) c.args.clocks (c.clocks.clock + 1) c.step-stepped.result.until) own c.step-stepped.ensures.until in
+    after_leap k c.is_of_its_kind.ensures.kind lines _ course inv.is_course inv.clocks_at c.clocks.clock c.leap-clock.result c.step-stepped.result.until c.args.clocks _ _ run
     c.leap-clock.ensures.from c.leap-clock.ensures.until until c.leap-clock.ensures.run c.leap-clock.ensures.calm c.leap-clock.ensures.moves_on
 
 -- what the trace was told of by then
@@ -106,10 +106,10 @@ told_after g c =
     let inv = c.clocks.invariant in
     let k = g.R.Runs.kind in
     let n = c.clocks.clock in
-    let run = course-next inv.is_course n inv.run inv.lines c.step-next.ensures.run in
+    let run = course-next inv.is_course n inv.run inv.lines c.step-stepped.ensures.run in
     let s = shown-next k course n _ _ run refl in
-    told-after (shown_at k course) course.samples inv.is_course.samples n c.leap-clock.result _ c.step-next.result.1 _ _ c.leap-clock.ensures.from (run_after g c).same s
-    (λ old some. shows-again k course n _ _ inv.run run (c.step-next.ensures.shown old) some) inv.told
+    told-after (shown_at k course) course.samples inv.is_course.samples n c.leap-clock.result _ c.step-stepped.result.is_new _ _ c.leap-clock.ensures.from (run_after g c).same s
+    (λ old some. shows-again k course n _ _ inv.run run (c.step-stepped.ensures.shown old) some) inv.told
     (λ tells holds next b r. c.in_ok-tell.ensures.ok tells b (course.samples inv.told.last) (holds b r) next)
     (λ again l holds b r. subst (λ t. g.T.Trace.holds t b l false) (sym (c.in_ok-tell.ensures.again again)) (holds b r))
 
@@ -120,15 +120,15 @@ clocks-preserved g c =
     let k = g.R.Runs.kind in
     let lines = g.R.Runs.lines c.args.ports.now in
     let after = run_after g c in
-    let until = c.step-next.ensures.until in
+    let until = c.step-stepped.ensures.until in
     let test : ℕ → Bool = λ n. k.stirs lines (course.at n) in
     let one = worked-later test c.clocks.clock c.leap-clock.result c.leap-clock.ensures.from (λ some. inv.stirs some c.clocks-test.true) after.still in
     record {
       is_course = inv.is_course;
       clocks_at = inv.clocks_at;
       run = after.run;
-      lines = c.step-next.ensures.lines ∙ inv.lines;
-      may_ask = c.is_of_its_kind.ensures.waits c.step-next.new.ports _ (c.clocks.clock + 1) c.leap-clock.result c.step-next.ensures.may_ask c.leap-clock.ensures.from (λ j low below. until.rests j low (omega (arith, c.leap-clock.ensures.until)));
+      lines = c.step-stepped.ensures.lines ∙ inv.lines;
+      may_ask = c.is_of_its_kind.ensures.waits c.step-stepped.new.ports _ (c.clocks.clock + 1) c.leap-clock.result c.step-stepped.ensures.may_ask c.leap-clock.ensures.from (λ j low below. until.rests j low (omega (arith, c.leap-clock.ensures.until)));
       within = omega (arith, c.leap-clock.ensures.until, until.within);
       until = after.rests;
       stirs = λ some. after.stirs;
