@@ -33,7 +33,7 @@ use step_count::Steps;
 /// Does all that the program does. The words begin with the program's name.
 ///
 /// With status 0, where contracts know the files and the output: the record of the command that the words ask for,
-/// `RunPassed` and its kin (`specs/Passed.antt`).
+/// `RunPassed` and its kin (`specs/Passed.antt`), by the laws of `passed.rt`.
 pub fn piotool<F: Shelf, O: Sink, E: Sink, L: Ledger>(
     alloc: Global,
     words: &[String],
