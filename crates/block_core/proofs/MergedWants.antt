@@ -42,7 +42,9 @@ pub record IsStep (d : Due) (memory : List ℕ) (levels directions flags outside
   pub third : w3 ≡ with_intent w2 (place_intent (view memory seen flags) d c)
   pub fourth : w4 ≡ with_intent w3 (place_intent (view memory seen flags) d e)
 
-pub all_added : (d : Due) (memory : List ℕ) (clock levels directions flags outside : ℕ) (sync : Synchroniser) (a b c e : Option Slot) (outside2 pad seen : ℕ) (w0 w1 w2 w3 w4 : Wanted) → IsStep d memory levels directions flags outside sync a b c e outside2 pad seen w0 w1 w2 w3 w4 →
+pub all_added : (d : Due) (memory : List ℕ) (clock levels directions flags outside : ℕ) (sync : Synchroniser)
+    (a b c e : Option Slot) (outside2 pad seen : ℕ) (w0 w1 w2 w3 w4 : Wanted)
+    → IsStep d memory levels directions flags outside sync a b c e outside2 pad seen w0 w1 w2 w3 w4 →
     let wanted = wanted_over pad d (run memory clock levels directions flags outside sync a b c e) in
     w4 ≡ record {
       outputs = record {
@@ -57,7 +59,15 @@ all_added d memory clock levels directions flags outside sync a b c e outside2 p
     rw (s.fourth, s.third, s.second, s.first, s.start, s.sees) refl
 
 -- the run after the clock
-pub next_run : (d : Due) (memory : List ℕ) (clock levels directions flags outside : ℕ) (sync : Synchroniser) (a b c e : Option Slot) (outside2 pad seen : ℕ) (w0 w1 w2 w3 w4 : Wanted) (flags2 : ℕ) (sync2 : Synchroniser) (a2 b2 c2 e2 : Option Slot) → IsStep d memory levels directions flags outside sync a b c e outside2 pad seen w0 w1 w2 w3 w4 → flags2 ≡ merged_flags flags w4.clears w4.sets → sync2 ≡ pads.stepped pad sync → a2 ≡ place_after (view memory seen flags) d a → b2 ≡ place_after (view memory seen flags) d b → c2 ≡ place_after (view memory seen flags) d c → e2 ≡ place_after (view memory seen flags) d e → run memory (clock + 1) w4.outputs.levels w4.outputs.directions flags2 outside2 sync2 a2 b2 c2 e2 ≡ next_over pad d (run memory clock levels directions flags outside sync a b c e)
+pub next_run : (d : Due) (memory : List ℕ) (clock levels directions flags outside : ℕ) (sync : Synchroniser)
+    (a b c e : Option Slot) (outside2 pad seen : ℕ) (w0 w1 w2 w3 w4 : Wanted) (flags2 : ℕ) (sync2 : Synchroniser)
+    (a2 b2 c2 e2 : Option Slot)
+    → IsStep d memory levels directions flags outside sync a b c e outside2 pad seen w0 w1 w2 w3 w4
+    → flags2 ≡ merged_flags flags w4.clears w4.sets → sync2 ≡ pads.stepped pad sync
+    → a2 ≡ place_after (view memory seen flags) d a → b2 ≡ place_after (view memory seen flags) d b
+    → c2 ≡ place_after (view memory seen flags) d c → e2 ≡ place_after (view memory seen flags) d e
+    → run memory (clock + 1) w4.outputs.levels w4.outputs.directions flags2 outside2 sync2 a2 b2 c2 e2
+    ≡ next_over pad d (run memory clock levels directions flags outside sync a b c e)
 unfolding stepped
 next_run d memory clock levels directions flags outside sync a b c e outside2 pad seen w0 w1 w2 w3 w4 flags2 sync2 a2 b2 c2 e2 s f y ea eb ec ee =
     rw (
@@ -87,6 +97,13 @@ join false true b c e = refl
 join true a b c e = refl
 
 -- whether anything was done at any FIFO
-pub any_used : (d : Due) (memory : List ℕ) (clock levels directions flags outside : ℕ) (sync : Synchroniser) (a b c e : Option Slot) (outside2 pad seen : ℕ) (w0 w1 w2 w3 w4 : Wanted) → IsStep d memory levels directions flags outside sync a b c e outside2 pad seen w0 w1 w2 w3 w4 → (u1 u2 u3 u4 : Bool) → u1 ≡ place_uses_fifos (view memory seen flags) d a → u2 ≡ (u1 || place_uses_fifos (view memory seen flags) d b) → u3 ≡ (u2 || place_uses_fifos (view memory seen flags) d c) → u4 ≡ (u3 || place_uses_fifos (view memory seen flags) d e) → u4 ≡ uses_fifos_over pad d (run memory clock levels directions flags outside sync a b c e)
+pub any_used : (d : Due) (memory : List ℕ) (clock levels directions flags outside : ℕ) (sync : Synchroniser)
+    (a b c e : Option Slot) (outside2 pad seen : ℕ) (w0 w1 w2 w3 w4 : Wanted)
+    → IsStep d memory levels directions flags outside sync a b c e outside2 pad seen w0 w1 w2 w3 w4
+    → (u1 u2 u3 u4 : Bool) → u1 ≡ place_uses_fifos (view memory seen flags) d a
+    → u2 ≡ (u1 || place_uses_fifos (view memory seen flags) d b)
+    → u3 ≡ (u2 || place_uses_fifos (view memory seen flags) d c)
+    → u4 ≡ (u3 || place_uses_fifos (view memory seen flags) d e)
+    → u4 ≡ uses_fifos_over pad d (run memory clock levels directions flags outside sync a b c e)
 any_used d memory clock levels directions flags outside sync a b c e outside2 pad seen w0 w1 w2 w3 w4 s u1 u2 u3 u4 f1 f2 f3 f4 =
     rw (f4, f3, f2, f1, s.sees) (sym (join false (place_uses_fifos _ d a) (place_uses_fifos _ d b) (place_uses_fifos _ d c) (place_uses_fifos _ d e)))

@@ -4,14 +4,16 @@ use Rattle.std.proofs.lemmas.Bool.{cases_lt}
 use Rattle.idle_engine.specs.Kinds.{RunKind, IsKind, IsUntil, IsCalm, Course, IsCourse, shown_at}
 
 -- each state of a run that begins in clock 0 is in its clock
-pub in_clocks : {H L V : Type 0} (k : RunKind H L V) → IsKind k → (l : L) (begin : H) (c : Course H V) → IsCourse k l begin c → (n : ℕ) → k.in_clock (c.at n) n
+pub in_clocks : {H L V : Type 0} (k : RunKind H L V) → IsKind k → (l : L) (begin : H) (c : Course H V)
+    → IsCourse k l begin c → (n : ℕ) → k.in_clock (c.at n) n
 in_clocks {H} k laws l begin c course zero = subst (λ (h : H). k.in_clock h 0) (sym course.begins) course.fresh
 in_clocks {H} k laws l begin c course (suc n) =
     subst (λ (h : H). k.in_clock h (suc n)) (sym (course.goes n))
     (subst (λ (m : ℕ). k.in_clock (k.next l (c.at n)) m) (add-one n) (laws.later l (c.at n) n (in_clocks k laws l begin c course n)))
 
 -- a test that fails up to a clock does from a later one on, and so does one that agrees with it
-pub until_later : (test other : ℕ → Bool) (end from later until : ℕ) → IsUntil test end from until → ((n : ℕ) → other n ≡ test n) → from ≤ later → later ≤ until → IsUntil other end later until
+pub until_later : (test other : ℕ → Bool) (end from later until : ℕ) → IsUntil test end from until
+    → ((n : ℕ) → other n ≡ test n) → from ≤ later → later ≤ until → IsUntil other end later until
 until_later test other end from later until u same le within =
     record { ahead = within; within = u.within; rests = λ c low below. same c ∙ u.rests c (omega arith) below; passes = λ early. same until ∙ u.passes early }
 
@@ -24,7 +26,9 @@ fewer k h n calm = record {
 }
 
 -- while a run is calm and the system doesn't act, only time goes by
-passes : {H L V : Type 0} (k : RunKind H L V) → IsKind k → (l : L) (begin : H) (c : Course H V) → IsCourse k l begin c → ((n : ℕ) → k.in_clock (c.at n) n) → (b n : ℕ) → IsCalm k (c.at b) n → ((j : ℕ) → b ≤ j → j < b + n → k.acts l (c.at b) j ≡ false) → c.at (b + n) ≡ k.quiet_from (c.at b) n
+passes : {H L V : Type 0} (k : RunKind H L V) → IsKind k → (l : L) (begin : H) (c : Course H V) → IsCourse k l begin c
+    → ((n : ℕ) → k.in_clock (c.at n) n) → (b n : ℕ) → IsCalm k (c.at b) n
+    → ((j : ℕ) → b ≤ j → j < b + n → k.acts l (c.at b) j ≡ false) → c.at (b + n) ≡ k.quiet_from (c.at b) n
 passes k laws l begin c course clocks b zero calm rests = ap c.at (add-zero b) ∙ sym (laws.none (c.at b))
 passes {H} k laws l begin c course clocks b (suc n) calm rests =
     let before = passes k laws l begin c course clocks b n (fewer k (c.at b) n calm) (λ j from below. rests j from (omega arith)) in
@@ -43,7 +47,11 @@ pub record IsAfterLeap {H L V : Type 0} (k : RunKind H L V) (l : L) (c : Course 
   pub stirs : later < clocks → k.stirs l (c.at later) ≡ true
 
 -- the same from the run's own state on
-from_course : {H L V : Type 0} (k : RunKind H L V) → IsKind k → (l : L) (begin : H) (c : Course H V) → IsCourse k l begin c → ((n : ℕ) → k.in_clock (c.at n) n) → (b later until clocks : ℕ) (now : H) → b + 1 ≤ later → later ≤ until → IsUntil (k.acts l (c.at (b + 1))) clocks (b + 1) until → now ≡ k.quiet_from (c.at (b + 1)) (later - (b + 1)) → IsCalm k (c.at (b + 1)) (later - (b + 1)) → (later < until → k.moves_on now ≡ true) → IsAfterLeap k l c b later until clocks now
+from_course : {H L V : Type 0} (k : RunKind H L V) → IsKind k → (l : L) (begin : H) (c : Course H V)
+    → IsCourse k l begin c → ((n : ℕ) → k.in_clock (c.at n) n) → (b later until clocks : ℕ) (now : H) → b + 1 ≤ later
+    → later ≤ until → IsUntil (k.acts l (c.at (b + 1))) clocks (b + 1) until
+    → now ≡ k.quiet_from (c.at (b + 1)) (later - (b + 1)) → IsCalm k (c.at (b + 1)) (later - (b + 1))
+    → (later < until → k.moves_on now ≡ true) → IsAfterLeap k l c b later until clocks now
 from_course {H} k laws l begin c course clocks_at b later until clocks now from to u is_now calm moves = record {
   run = run;
   rests = rests;
@@ -81,23 +89,30 @@ from_course {H} k laws l begin c course clocks_at b later until clocks now from 
   acts : (n : ℕ) → k.acts l (c.at later) n ≡ k.acts l now n
   acts n = sym (ap (λ (h : H). k.acts l h n) run)
 
-pub after_leap : {H L V : Type 0} (k : RunKind H L V) → IsKind k → (l : L) (begin : H) (c : Course H V) → IsCourse k l begin c → ((n : ℕ) → k.in_clock (c.at n) n) → (b later until clocks : ℕ) (before now : H) → before ≡ c.at (b + 1) → b + 1 ≤ later → later ≤ until → IsUntil (k.acts l before) clocks (b + 1) until → now ≡ k.quiet_from before (later - (b + 1)) → IsCalm k before (later - (b + 1)) → (later < until → k.moves_on now ≡ true) → IsAfterLeap k l c b later until clocks now
+pub after_leap : {H L V : Type 0} (k : RunKind H L V) → IsKind k → (l : L) (begin : H) (c : Course H V)
+    → IsCourse k l begin c → ((n : ℕ) → k.in_clock (c.at n) n) → (b later until clocks : ℕ) (before now : H)
+    → before ≡ c.at (b + 1) → b + 1 ≤ later → later ≤ until → IsUntil (k.acts l before) clocks (b + 1) until
+    → now ≡ k.quiet_from before (later - (b + 1)) → IsCalm k before (later - (b + 1))
+    → (later < until → k.moves_on now ≡ true) → IsAfterLeap k l c b later until clocks now
 after_leap {H} k laws l begin c course clocks_at b later until clocks before now is from to =
     subst (λ (h : H). IsUntil (k.acts l h) clocks (b + 1) until → now ≡ k.quiet_from h (later - (b + 1)) → IsCalm k h (later - (b + 1)) → (later < until → k.moves_on now ≡ true) → IsAfterLeap k l c b later until clocks now)
     (sym is)
     (from_course k laws l begin c course clocks_at b later until clocks now from to)
 
 -- the state after a clock that was worked out
-pub course-next : {H L V : Type 0} {k : RunKind H L V} {l own : L} {begin : H} {c : Course H V} → IsCourse k l begin c → (n : ℕ) {before after : H} → before ≡ c.at n → own ≡ l → after ≡ k.next own before → after ≡ c.at (n + 1)
+pub course-next : {H L V : Type 0} {k : RunKind H L V} {l own : L} {begin : H} {c : Course H V} → IsCourse k l begin c
+    → (n : ℕ) {before after : H} → before ≡ c.at n → own ≡ l → after ≡ k.next own before → after ≡ c.at (n + 1)
 course-next {H} {L} {V} {k} {l} {own} {begin} {c} course n {before} {after} is is_own is_next =
     is_next ∙ ap (λ (x : L). k.next x before) is_own ∙ ap (k.next l) is ∙ sym (course.goes n) ∙ ap c.at (sym (add-one n))
 
 -- what it shows is what the clock shows
-pub shown-next : {H L V : Type 0} (k : RunKind H L V) (c : Course H V) (n : ℕ) (after : H) (s : V) → after ≡ c.at (n + 1) → s ≡ k.shown after → s ≡ shown_at k c n
+pub shown-next : {H L V : Type 0} (k : RunKind H L V) (c : Course H V) (n : ℕ) (after : H) (s : V)
+    → after ≡ c.at (n + 1) → s ≡ k.shown after → s ≡ shown_at k c n
 shown-next k c n after s is shows = shows ∙ ap k.shown is ∙ ap (λ (m : ℕ). k.shown (c.at m)) (add-one n)
 
 -- where it shows what it showed before, the clock shows what the one before shows
-pub shows-again : {H L V : Type 0} (k : RunKind H L V) (c : Course H V) (n : ℕ) (before after : H) → before ≡ c.at n → after ≡ c.at (n + 1) → k.shown after ≡ k.shown before → 0 < n → shown_at k c n ≡ shown_at k c (n - 1)
+pub shows-again : {H L V : Type 0} (k : RunKind H L V) (c : Course H V) (n : ℕ) (before after : H) → before ≡ c.at n
+    → after ≡ c.at (n + 1) → k.shown after ≡ k.shown before → 0 < n → shown_at k c n ≡ shown_at k c (n - 1)
 shows-again k c n before after was is same some =
     let e : n ≡ suc (n - 1) = omega arith in
     sym (shown-next k c n after (k.shown after) is refl) ∙ same ∙ ap k.shown was ∙ ap (λ (m : ℕ). k.shown (c.at m)) e

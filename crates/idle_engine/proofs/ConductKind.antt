@@ -33,7 +33,11 @@ conduct-kind quiet_due quiet_transfers =
     }
 
 -- a clock for which the ports are asked
-pub conduct-asked : (lines : List Line) (h : Hosted) (last after : Conduct) (n : ℕ) (run : Run) (t : Transfers) → h.run.clock ≡ n → run ≡ next (due_in lines n (requests_of h.run.state) h.transfers) h.run → t ≡ transfers_after lines n (requests_of h.run.state) h.transfers → after ≡ conduct_after (due_in lines n (requests_of h.run.state) h.transfers) h.run last → record { hosted = record { run = run; transfers = t }; last = after } ≡ conducting_next lines (record { hosted = h; last = last })
+pub conduct-asked : (lines : List Line) (h : Hosted) (last after : Conduct) (n : ℕ) (run : Run) (t : Transfers)
+    → h.run.clock ≡ n → run ≡ next (due_in lines n (requests_of h.run.state) h.transfers) h.run
+    → t ≡ transfers_after lines n (requests_of h.run.state) h.transfers
+    → after ≡ conduct_after (due_in lines n (requests_of h.run.state) h.transfers) h.run last
+    → record { hosted = record { run = run; transfers = t }; last = after } ≡ conducting_next lines (record { hosted = h; last = last })
 conduct-asked lines h last after n run t in_clock is_run is_t is_after =
     let due : due_in lines n (requests_of h.run.state) h.transfers ≡ due_of lines h = ap (λ (k : ℕ). due_in lines k (requests_of h.run.state) h.transfers) (sym in_clock) in
     rw (asked-next lines h n run t in_clock is_run is_t, is_after, due) refl
@@ -44,11 +48,14 @@ unfolding conducting_from run_from
 hosted_from h zero = refl
 hosted_from h (suc n) = ap (λ (b : Hosted). one.quiet_next b) (hosted_from h n)
 
-pub moves_from : (h : Conducting) (n : ℕ) → one_conduct.moves_on (one_conduct.quiet_from h n) ≡ moves_on quiet (run_from h.hosted.run (λ c. quiet) n)
+pub moves_from : (h : Conducting) (n : ℕ)
+    → one_conduct.moves_on (one_conduct.quiet_from h n) ≡ moves_on quiet (run_from h.hosted.run (λ c. quiet) n)
 moves_from h n = ap (λ (b : Hosted). one.moves_on b) (hosted_from h n)
 
 -- and where none of them is of note, what is told stays
-pub last_from : (h : Conducting) (n : ℕ) → ((k : ℕ) → k < n → is_noted quiet (run_from h.hosted.run (λ c. quiet) k) ≡ false) → (conducting_from h n).last ≡ h.last
+pub last_from : (h : Conducting) (n : ℕ)
+    → ((k : ℕ) → k < n → is_noted quiet (run_from h.hosted.run (λ c. quiet) k) ≡ false)
+    → (conducting_from h n).last ≡ h.last
 unfolding conducting_from
 last_from h zero none = refl
 last_from h (suc n) none =
@@ -57,12 +64,17 @@ last_from h (suc n) none =
     ∙ ap (λ (b : Bool). cond b (conduct_in quiet r) (conducting_from h n).last) (none n (omega arith))
     ∙ last_from h n (λ k lt. none k (omega (arith, lt)))
 
-pub conduct-from : (h : Conducting) (n : ℕ) → ((k : ℕ) → k < n → is_noted quiet (run_from h.hosted.run (λ c. quiet) k) ≡ false) → record { hosted = record h.hosted { run = run_from h.hosted.run (λ c. quiet) n }; last = h.last } ≡ conducting_from h n
+pub conduct-from : (h : Conducting) (n : ℕ)
+    → ((k : ℕ) → k < n → is_noted quiet (run_from h.hosted.run (λ c. quiet) k) ≡ false)
+    → record { hosted = record h.hosted { run = run_from h.hosted.run (λ c. quiet) n }; last = h.last } ≡ conducting_from h n
 conduct-from h n none =
     let mk : Hosted → Conduct → Conducting = λ b c. record { hosted = b; last = c } in
     ap (λ (b : Hosted). mk b h.last) (sym (hosted_from h n)) ∙ ap (mk (conducting_from h n).hosted) (sym (last_from h n none))
 
-pub conduct-calm : (h : Conducting) (n : ℕ) → ((r : Run) (k : ℕ) → requests_of (leapt k r).state ≡ requests_of r.state) → ((k : ℕ) → k ≤ n → run_from h.hosted.run (λ c. quiet) k ≡ leapt k h.hosted.run) → ((k : ℕ) → k < n → moves_on quiet (run_from h.hosted.run (λ c. quiet) k) ≡ false) → ((k : ℕ) → k < n → is_noted quiet (run_from h.hosted.run (λ c. quiet) k) ≡ false) → IsCalm one_conduct h n
+pub conduct-calm : (h : Conducting) (n : ℕ) → ((r : Run) (k : ℕ) → requests_of (leapt k r).state ≡ requests_of r.state)
+    → ((k : ℕ) → k ≤ n → run_from h.hosted.run (λ c. quiet) k ≡ leapt k h.hosted.run)
+    → ((k : ℕ) → k < n → moves_on quiet (run_from h.hosted.run (λ c. quiet) k) ≡ false)
+    → ((k : ℕ) → k < n → is_noted quiet (run_from h.hosted.run (λ c. quiet) k) ≡ false) → IsCalm one_conduct h n
 conduct-calm h n asks rests calm none = record {
   asks = λ j le l m.
       ap (λ (b : Hosted). acts_in l m (requests_of b.run.state) b.transfers) (hosted_from h j)
@@ -76,7 +88,10 @@ conducts-firsts : (start : Run) (lines : List Line) → AreFirsts (conduct_at st
 unfolding conducts
 conducts-firsts start lines = record { none = refl; more = λ n. refl }
 
-pub conduct-course : (start : Run) (last : Conduct) (lines : List Line) (p : Ports) → start.clock ≡ 0 → last ≡ no_conduct start → p ≡ first_ports lines → IsCourse one_conduct p.lines (record { hosted = record { run = start; transfers = p.transfers }; last = last }) (record { at = λ n. record { hosted = hosted_at start p.lines n; last = conduct_before start p.lines n }; samples = conducts start p.lines })
+pub conduct-course : (start : Run) (last : Conduct) (lines : List Line) (p : Ports) → start.clock ≡ 0
+    → last ≡ no_conduct start → p ≡ first_ports lines
+    → IsCourse one_conduct p.lines (record { hosted = record { run = start; transfers = p.transfers }; last = last })
+    (record { at = λ n. record { hosted = hosted_at start p.lines n; last = conduct_before start p.lines n }; samples = conducts start p.lines })
 unfolding hosted_at conduct_before
 conduct-course start last lines p fresh untold first = record {
   fresh = fresh;

@@ -6,7 +6,10 @@ use Rattle.idle_engine.specs.Kinds.{AreFirsts}
 use Rattle.idle_engine.proofs.GrowingLists.{firsts-from}
 
 -- by whether its end was told
-by_end : {V : Type 0} (at : ℕ → V) (all : ℕ → List V) → AreFirsts at all → (before taken : Option (List ℕ)) (text : List V → Bool → List ℕ) (clocks count : ℕ) (ended : Bool) → PartStays before taken text → count ≤ clocks → (ended ≡ true → count ≡ clocks) → TakesPrefix before (text (all count) ended) taken → TakesPrefix before (text (all clocks) true) taken
+by_end : {V : Type 0} (at : ℕ → V) (all : ℕ → List V) → AreFirsts at all → (before taken : Option (List ℕ))
+    (text : List V → Bool → List ℕ) (clocks count : ℕ) (ended : Bool) → PartStays before taken text → count ≤ clocks
+    → (ended ≡ true → count ≡ clocks) → TakesPrefix before (text (all count) ended) taken
+    → TakesPrefix before (text (all clocks) true) taken
 by_end at all h before taken text clocks count true stays within whole p =
     subst (λ (n : ℕ). TakesPrefix before (text (all n) true) taken) (whole refl) p
 by_end {V} at all h before taken text clocks count false stays within whole p =

@@ -14,7 +14,8 @@ length-firsts at all h (suc n) =
     omega (arith, length-append (all n) (at n ∷ []), e)
 
 -- those of more clocks begin with those of fewer
-pub firsts-from : {T : Type 0} (at : ℕ → T) (all : ℕ → List T) → AreFirsts at all → (n more : ℕ) → (later : List T) × (all (n + more) ≡ all n ++ later)
+pub firsts-from : {T : Type 0} (at : ℕ → T) (all : ℕ → List T) → AreFirsts at all → (n more : ℕ)
+    → (later : List T) × (all (n + more) ≡ all n ++ later)
 firsts-from at all h n zero = ([], ap all (add-zero n) ∙ sym (append-nil (all n)))
 firsts-from at all h n (suc more) =
     let before = firsts-from at all h n more in
@@ -29,7 +30,8 @@ last_of-append x s [] = refl
 last_of-append x s (t ∷ rest) = last_of-append x t rest
 
 -- a list is held to a later clock by its last element
-held_to-later : {T : Type 0} (l : List T) (x : T) (c n : ℕ) → length (l ++ x ∷ []) ≡ c → held_to (c + n) (l ++ x ∷ []) ≡ (l ++ x ∷ []) ++ replicate n x
+held_to-later : {T : Type 0} (l : List T) (x : T) (c n : ℕ) → length (l ++ x ∷ []) ≡ c
+    → held_to (c + n) (l ++ x ∷ []) ≡ (l ++ x ∷ []) ++ replicate n x
 held_to-later [] x c n e =
     let left : c + n - 1 ≡ n = omega arith in
     ap (λ (k : ℕ). (x ∷ []) ++ replicate k x) left
@@ -43,7 +45,8 @@ one-more : {T : Type 0} (n : ℕ) (x : T) → replicate n x ++ x ∷ [] ≡ repl
 one-more n x = replicate-append-replicate n 1 x ∙ ap (λ (k : ℕ). replicate k x) (add-one n)
 
 -- more clocks with the same
-firsts-same : {T : Type 0} (at : ℕ → T) (all : ℕ → List T) → AreFirsts at all → (c n : ℕ) (x : T) → ((k : ℕ) → k < n → at (c + k) ≡ x) → all (c + n) ≡ all c ++ replicate n x
+firsts-same : {T : Type 0} (at : ℕ → T) (all : ℕ → List T) → AreFirsts at all → (c n : ℕ) (x : T)
+    → ((k : ℕ) → k < n → at (c + k) ≡ x) → all (c + n) ≡ all c ++ replicate n x
 firsts-same at all h c zero x same = ap all (add-zero c) ∙ sym (append-nil (all c))
 firsts-same at all h c (suc n) x same =
     let before = firsts-same at all h c n x (λ k below. same k (omega arith)) in
@@ -55,7 +58,8 @@ firsts-same at all h c (suc n) x same =
     ∙ ap (λ l. all c ++ l) (one-more n x)
 
 -- a trace told up to a clock after which some show the same
-pub firsts-held : {T : Type 0} (at : ℕ → T) (all : ℕ → List T) → AreFirsts at all → (b n : ℕ) → ((k : ℕ) → k < n → at (b + 1 + k) ≡ at b) → held_to (b + 1 + n) (all (b + 1)) ≡ all (b + 1 + n)
+pub firsts-held : {T : Type 0} (at : ℕ → T) (all : ℕ → List T) → AreFirsts at all → (b n : ℕ)
+    → ((k : ℕ) → k < n → at (b + 1 + k) ≡ at b) → held_to (b + 1 + n) (all (b + 1)) ≡ all (b + 1 + n)
 firsts-held at all h b n same =
     let x = at b in
     let l = all b in
@@ -67,13 +71,15 @@ firsts-held at all h b n same =
     ∙ sym (firsts-same at all h (b + 1) n x same)
 
 -- such a trace is told of the clock next
-pub firsts-next : {T : Type 0} (at : ℕ → T) (all : ℕ → List T) → AreFirsts at all → (last clock : ℕ) → last ≤ clock → (last ≡ 0 → clock ≡ 0) → IsNext (all last) clock
+pub firsts-next : {T : Type 0} (at : ℕ → T) (all : ℕ → List T) → AreFirsts at all → (last clock : ℕ) → last ≤ clock
+    → (last ≡ 0 → clock ≡ 0) → IsNext (all last) clock
 firsts-next at all h last clock le first =
     let e = length-firsts at all h last in
     record { after = omega arith; first = λ none. first (omega arith) }
 
 -- and then has those up to it
-pub firsts-told : {T : Type 0} (at : ℕ → T) (all : ℕ → List T) → AreFirsts at all → (last clock : ℕ) (s : T) → held_to clock (all last) ≡ all clock → s ≡ at clock → told_at clock s (all last) ≡ all (clock + 1)
+pub firsts-told : {T : Type 0} (at : ℕ → T) (all : ℕ → List T) → AreFirsts at all → (last clock : ℕ) (s : T)
+    → held_to clock (all last) ≡ all clock → s ≡ at clock → told_at clock s (all last) ≡ all (clock + 1)
 firsts-told at all h last clock s held e =
     ap (λ l. l ++ s ∷ []) held
     ∙ ap (λ x. all clock ++ x ∷ []) e

@@ -27,7 +27,8 @@ pub record DoesNothing (lines : List Line) (h : Hosted) : Type 0 where
   pub due : due_of lines h ≡ quiet
   pub transfers : transfers_on lines h ≡ h.transfers
 
-pub does_nothing : QuietDue → QuietTransfers → (lines : List Line) (h : Hosted) (n : ℕ) → h.run.clock ≡ n → acts_in lines n (requests_of h.run.state) h.transfers ≡ false → DoesNothing lines h
+pub does_nothing : QuietDue → QuietTransfers → (lines : List Line) (h : Hosted) (n : ℕ) → h.run.clock ≡ n
+    → acts_in lines n (requests_of h.run.state) h.transfers ≡ false → DoesNothing lines h
 does_nothing quiet_due quiet_transfers lines h n in_clock rests =
     let e : acts_in lines h.run.clock (requests_of h.run.state) h.transfers ≡ false = ap (λ (k : ℕ). acts_in lines k (requests_of h.run.state) h.transfers) in_clock ∙ rests in
     record {
@@ -53,7 +54,10 @@ one-kind quiet_due quiet_transfers = record {
 }
 
 -- a clock for which the ports are asked
-pub asked-next : (lines : List Line) (h : Hosted) (n : ℕ) (run : Run) (t : Transfers) → h.run.clock ≡ n → run ≡ next (due_in lines n (requests_of h.run.state) h.transfers) h.run → t ≡ transfers_after lines n (requests_of h.run.state) h.transfers → record { run = run; transfers = t } ≡ hosted_next lines h
+pub asked-next : (lines : List Line) (h : Hosted) (n : ℕ) (run : Run) (t : Transfers) → h.run.clock ≡ n
+    → run ≡ next (due_in lines n (requests_of h.run.state) h.transfers) h.run
+    → t ≡ transfers_after lines n (requests_of h.run.state) h.transfers
+    → record { run = run; transfers = t } ≡ hosted_next lines h
 unfolding hosted_next
 asked-next lines h n run t in_clock is_run is_t = rw (is_run, is_t, in_clock) refl
 
@@ -62,7 +66,8 @@ unfolding acts_in
 no_line lines c requests t h = (or_parts (has_line c lines) (moves_in c requests t) h).0
 
 -- no line is passed over in clocks in which the system doesn't act
-pub none_before : (lines : List Line) (requests : Requests) (t : Transfers) (next n m : ℕ) → NoneBetween lines next n → ((c : ℕ) → n ≤ c → c < m → acts_in lines c requests t ≡ false) → NoneBetween lines next m
+pub none_before : (lines : List Line) (requests : Requests) (t : Transfers) (next n m : ℕ) → NoneBetween lines next n
+    → ((c : ℕ) → n ≤ c → c < m → acts_in lines c requests t ≡ false) → NoneBetween lines next m
 none_before lines requests t next n m none rests c from below =
     elim (cases_lt c n) [
       | inl lt ↦ none c from lt

@@ -24,7 +24,8 @@ either_acts false true false n h = refl
 either_acts false false m n h = cc
 
 -- it does nothing at both
-both_rest : QuietDue → QuietTransfers → (lines : List Line × List Line) (h : HostedTwin) (n : ℕ) → twin.in_clock h n → twin.acts lines h n ≡ false → DoesNothing lines.0 h.first × DoesNothing lines.1 h.second
+both_rest : QuietDue → QuietTransfers → (lines : List Line × List Line) (h : HostedTwin) (n : ℕ) → twin.in_clock h n
+    → twin.acts lines h n ≡ false → DoesNothing lines.0 h.first × DoesNothing lines.1 h.second
 both_rest quiet_due quiet_transfers lines h n in_clock rests =
     let e = or_parts (acts_in lines.0 n (requests_of h.first.run.state) h.first.transfers) (acts_in lines.1 n (requests_of h.second.run.state) h.second.transfers) rests in
     (does_nothing quiet_due quiet_transfers lines.0 h.first n in_clock.0 e.0, does_nothing quiet_due quiet_transfers lines.1 h.second n in_clock.1 e.1)
@@ -54,7 +55,12 @@ twin-kind quiet_due quiet_transfers = record {
 }
 
 -- a clock for which the ports of both are asked
-pub asked-next : (lines : List Line × List Line) (h : HostedTwin) (n : ℕ) (t : TwinRun) (x y : Transfers) → twin.in_clock h n → t ≡ twin_next (due_in lines.0 n (requests_of h.first.run.state) h.first.transfers) (due_in lines.1 n (requests_of h.second.run.state) h.second.transfers) (twin_of h) → x ≡ transfers_after lines.0 n (requests_of h.first.run.state) h.first.transfers → y ≡ transfers_after lines.1 n (requests_of h.second.run.state) h.second.transfers → record { own = t.own; first = record { run = t.first; transfers = x }; second = record { run = t.second; transfers = y } } ≡ hosted_twin_next lines.0 lines.1 h
+pub asked-next : (lines : List Line × List Line) (h : HostedTwin) (n : ℕ) (t : TwinRun) (x y : Transfers)
+    → twin.in_clock h n
+    → t ≡ twin_next (due_in lines.0 n (requests_of h.first.run.state) h.first.transfers) (due_in lines.1 n (requests_of h.second.run.state) h.second.transfers) (twin_of h)
+    → x ≡ transfers_after lines.0 n (requests_of h.first.run.state) h.first.transfers
+    → y ≡ transfers_after lines.1 n (requests_of h.second.run.state) h.second.transfers
+    → record { own = t.own; first = record { run = t.first; transfers = x }; second = record { run = t.second; transfers = y } } ≡ hosted_twin_next lines.0 lines.1 h
 unfolding hosted_twin_next twin_next
 asked-next lines h n t x y in_clock is_t is_x is_y = rw (is_t, is_x, is_y, in_clock.0, in_clock.1) refl
 
@@ -63,7 +69,9 @@ abbrev pub UnusedAsk : Type 0
 UnusedAsk = (pad : ℕ) (d : Due) (r : Run) → uses_fifos_over pad d r ≡ false → requests_of (next_over pad d r).state ≡ requests_of r.state
 
 -- where nobody does anything at a FIFO of either, both ask for what they asked before
-pub both-ask : UnusedAsk → (t now : TwinRun) (used : Bool × Bool) → now ≡ twin_next quiet quiet t → used ≡ twin_uses_fifos_in quiet quiet t → (used.0 || used.1) ≡ false → (requests_of now.first.state ≡ requests_of t.first.state) × (requests_of now.second.state ≡ requests_of t.second.state)
+pub both-ask : UnusedAsk → (t now : TwinRun) (used : Bool × Bool) → now ≡ twin_next quiet quiet t
+    → used ≡ twin_uses_fifos_in quiet quiet t → (used.0 || used.1) ≡ false
+    → (requests_of now.first.state ≡ requests_of t.first.state) × (requests_of now.second.state ≡ requests_of t.second.state)
 unfolding twin_next
 both-ask law t now used is_now is_used none =
     let unused = or_parts used.0 used.1 none in (
@@ -72,7 +80,8 @@ both-ask law t now used is_now is_used none =
     )
 
 -- the first clock in which either of two tests passes
-pub until_either : (a b : ℕ → Bool) (end from x y : ℕ) → IsUntil a end from x → IsUntil b end from y → IsUntil (λ n. a n || b n) end from (min x y)
+pub until_either : (a b : ℕ → Bool) (end from x y : ℕ) → IsUntil a end from x → IsUntil b end from y
+    → IsUntil (λ n. a n || b n) end from (min x y)
 until_either a b end from x y u v =
     let ahead_x = u.ahead in
     let ahead_y = v.ahead in

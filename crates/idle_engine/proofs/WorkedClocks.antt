@@ -26,7 +26,8 @@ worked-same test c (suc n) some fails =
     ∙ add-zero (worked test (c + n)) ∙ before
 
 -- the clock passes or is the first, and then none does up to a later one
-pub worked-later : (test : ℕ → Bool) (clock later : ℕ) → clock + 1 ≤ later → (0 < clock → test clock ≡ true) → ((k : ℕ) → clock + 1 ≤ k → k < later → test k ≡ false) → worked test later ≡ worked test clock + 1
+pub worked-later : (test : ℕ → Bool) (clock later : ℕ) → clock + 1 ≤ later → (0 < clock → test clock ≡ true)
+    → ((k : ℕ) → clock + 1 ≤ k → k < later → test k ≡ false) → worked test later ≡ worked test clock + 1
 worked-later test clock later le passes fails =
     let n = later - (clock + 1) in
     let whole : clock + 1 + n ≡ later = omega arith in
@@ -66,7 +67,8 @@ worked-all test (suc n) =
     omega arith
 
 -- at most one more than those that pass
-pub worked-passing : (test : ℕ → Bool) (count : ℕ → ℕ) → ((n : ℕ) → count (suc n) ≡ count n + cond (test n) 1 0) → (n : ℕ) → worked test n ≤ count n + 1
+pub worked-passing : (test : ℕ → Bool) (count : ℕ → ℕ) → ((n : ℕ) → count (suc n) ≡ count n + cond (test n) 1 0)
+    → (n : ℕ) → worked test n ≤ count n + 1
 worked-passing test count more zero = let e = worked-none test in omega arith
 worked-passing test count more (suc zero) = let all = worked-all test 1 in omega arith
 worked-passing test count more (suc (suc n)) =
