@@ -55,7 +55,7 @@ pub(crate) struct Running<F: Fifo> {
 struct Known {
     /// Whether the places after the first are empty, as in most blocks, so that a clock asks for none of them.
     alone: bool,
-    /// Whether the only machine is known to be ready in the present clock, so that a clock asks nothing of it.
+    /// Whether the only machine is known to be ready in the present clock, so that only its word is asked.
     ready: bool,
 }
 

@@ -108,7 +108,7 @@ pub record RecheckPassed (c : Call) (files : Files) (source : List ℕ) (config 
   pub proved : IsProvedBy setup span rows
   pub holds : HoldsInEveryRun setup span
 
--- `measure`: it wrote a line for each span, with what it measures in the samples of the run
+-- `measure`: it wrote a line for each span, with what it measures in the run (`seen_in`)
 pub record MeasurePassed (c : Call) (files : Files) (source : List ℕ) (config stimulus : Option (List ℕ)) (clocks : ℕ) : Type 0 where
   pub setup : Setup
   pub lines : List Line
@@ -124,7 +124,7 @@ pub record ReceivePassed (c : Call) (files : Files) (source : List ℕ) (config 
       (levels_of pin (samples (first_run setup) lines clocks))))
 
 -- `inspect`: the files give this setup and these lines. It wrote the trace of what stepping has inside the block, clock
--- by clock, with a scope for each configured machine. No span is asked.
+-- by clock, with a scope for each configured machine. No span is required.
 pub record InspectPassed (c : Call) (files : Files) (source : List ℕ) (config stimulus : Option (List ℕ)) (clocks : ℕ) : Type 0 where
   pub setup : Setup
   pub lines : List Line

@@ -23,7 +23,7 @@ pub record WritesText (c : Call) (a : Asked) : Type 0 where
   pub handed : c.out_after.waiting ≡ []
   pub out : c.out_after.faults ≡ c.out_before.faults
 
--- all was done: the text was written, each span that was asked is provable or proved by a table, so it holds in every
+-- all was done: the text was written, each span that was required is provable, or proved by a table, so it holds in every
 -- run; nothing failed
 pub record Passes (c : Call) (a : Asked) : Type 0 where
   pub writes : WritesText c a
@@ -31,8 +31,8 @@ pub record Passes (c : Call) (a : Asked) : Type 0 where
   pub holds : ComesTo c a AllRunsHold
   pub shelf : SameShelf c
 
--- what is written where a span isn't provable: the whole text by `check`, and nothing by the other commands that ask
--- spans; the rest ask none
+-- what is written where a span isn't provable: the whole text by `check`, and nothing by the other commands that require
+-- spans; the rest require none
 abbrev pub WritesRefused : Asked → Call → Type 0
 WritesRefused (run source config stimulus clocks) c = SameOut c
 WritesRefused (check source config) c = WritesText c (check source config)
@@ -75,7 +75,7 @@ pub record Faulty (c : Call) (a : Asked) (e : Fault) : Type 0 where
   pub judged : IfSome c.files (λ f. judge f a ≡ wrong e)
   pub untouched : Untouched c
 
--- the text is longer than a file of its kind may be; each span that is asked is provable, nothing was written, and
+-- the text is longer than a file of its kind may be; each span that is required is provable, nothing was written, and
 -- nothing failed
 pub record LongText (c : Call) (a : Asked) : Type 0 where
   pub text : ComesTo c a HasLongText

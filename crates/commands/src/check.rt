@@ -16,7 +16,7 @@ use fault_lines::Fault;
 use pin_matrix::{Setup, Span};
 use pio_edge::{Shelf, Sink, SinkFailed};
 use span_texts::{Finding, Refusal, put_verdict};
-use stages::{Verdicts, judge_spans, prepare_setup, refuse};
+use stages::{Verdicts, judge_spans, prepare_setup, unless_refused};
 use std::alloc::Global;
 
 /// Writes the line of the verdict on each span of a setup, and then ends with the fault of the first one that isn't
@@ -45,7 +45,7 @@ fn tell_verdicts<O: Sink>(out: &mut O, setup: &Setup, verdicts: Verdicts) -> Res
     ensures { Does (task.verdicts setup.now) (output_by O.Sink out.old) (output_by O.Sink out.new) result }
 {
     write_verdicts(out, setup.spans.as_slice(), &verdicts.found)?;
-    refuse(setup, verdicts.refused)
+    unless_refused(setup, verdicts.refused)
 }
 
 /// Writes the lines of the verdicts on spans, and hands on what the output still keeps.

@@ -24,7 +24,7 @@ use step_count::Steps;
 use vcd_trace::{InsideVcd, failing_early_leaves_a_first_part_of_what_is_inside};
 
 /// Writes the trace of what is inside the block that a source sets up, by a configuration or by default, in so many
-/// clocks, beside a stimulus where one is named. No span is asked. All memory is taken before the first piece is put.
+/// clocks, beside a stimulus where one is named. No span is required. All memory is taken before the first piece is put.
 ///
 /// With status 0, where contracts know the files and the output: `InspectPassed` (`specs/Passed.antt`).
 pub fn inspect<F: Shelf, O: Sink, L: Ledger>(

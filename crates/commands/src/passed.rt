@@ -67,7 +67,7 @@ pub fn a_passed_recheck_is_a_proof()
         → RecheckPassed c files source config name file }
 {}
 
-/// `measure` wrote what each span measures in the samples of a run.
+/// `measure` wrote what each span measures in a run.
 #[tactic(auto, using(crate::proofs::PassedRecords::measure_passed))]
 pub fn a_passed_measure_is_its_lines()
     ensures { (c : Call) (files : Files) (source : List ℕ) (config stimulus : Option (List ℕ)) (clocks : ℕ)

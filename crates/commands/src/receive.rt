@@ -23,7 +23,7 @@ use std::sync::ledger::Ledger;
 use step_count::Steps;
 
 /// Writes a line for each frame that a pin sends in so many clocks of the block that a source sets up, by a
-/// configuration or by default, with a stimulus where one is named. No span is asked. All memory is taken before the
+/// configuration or by default, with a stimulus where one is named. No span is required. All memory is taken before the
 /// first piece is put.
 ///
 /// With status 0, where contracts know the files and the output: `ReceivePassed` (`specs/Passed.antt`).

@@ -9,7 +9,7 @@ use pio_edge::{Shelf, Sink};
 use stages::prepare_setup;
 use std::alloc::Global;
 
-/// Writes the report on what the machines of a setup share, by a configuration or by default. No span is asked. All
+/// Writes the report on what the machines of a setup share, by a configuration or by default. No span is required. All
 /// memory is taken before the first piece is put.
 ///
 /// With status 0, where contracts know the files and the output: `SharesPassed` (`specs/Passed.antt`).

@@ -1,4 +1,5 @@
-//! What a machine has read: the word at each address, and the pending word, is decoded once.
+//! What a machine has read: the word at each address, and the pending one. It is decoded only where another word was read
+//! at its place before.
 ghost use Rattle.std.specs.Prelude.{◌≡◌, ◌≤◌, ◌==◌, slice_index};
 ghost use Rattle.pio_encode.specs.Ranges.{IsInRange};
 ghost use Rattle.pio_encode.specs.Word.{reading_of};

@@ -112,9 +112,9 @@ impl<F: Fifo> Machine<F> {
         )
     }
 
-    /// Makes its next tick where that is simple, and else does nothing. Of a machine that is known to be ready, nothing
-    /// more is asked. Outside the registers a simple tick does nothing but write pins, over those of the machines
-    /// before it.
+    /// Makes its next tick where that is simple, and else does nothing. Of a machine that is known to be ready, neither
+    /// autopull, delay, stall nor pending word is asked. Outside the registers a simple tick does nothing but write
+    /// pins, over those of the machines before it.
     #[inline(always)]
     #[tactic(auto, unfolding(crate::specs::Tick::tick_of))]
     pub fn simple_tick(&mut self, view: &View, outputs: &mut Outputs, ready: bool) -> Tried

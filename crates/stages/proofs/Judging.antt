@@ -96,7 +96,7 @@ judged_all u spans place found refused le h = subst (λ (l : List Span). AreJudg
     take_whole (s ∷ l) zero le = absurd (omega arith)
     take_whole (s ∷ l) (suc n) le = ap (λ r. s ∷ r) (take_whole l n (omega arith))
 
--- so its fault is that of a command that asks them
+-- so its fault is that of a command that requires them
 pub refused_asked : (u : Setup) (e : Fault) → IsFirstOf u u.spans (Some e) → AreRequired u (Err e)
 refused_asked u (fault.Unproved place name r) h = h
 refused_asked u e h = absurd h

@@ -108,7 +108,7 @@ pub record IsNextVerdict (u : Setup) (place : ℕ) (sp : Span) (before after : L
   pub more : after ≡ before ++ found ∷ []
   pub first : refused ≡ first_refused earlier place sp.name found
 
--- how a command ends that asks the spans: each is provable and holds in every run, or the first one that isn't is named
+-- how a command ends that requires the spans: each is provable and holds in every run, or the first one that isn't is named
 abbrev pub AreRequired : Setup → Result (Unit {0}) Fault → Type 0
 AreRequired u (Ok done) = AreProvable u × AllHold u
 AreRequired u (Err (fault.Unproved place name refusal)) = IsFirstRefused u u.spans place name refusal

@@ -1,5 +1,5 @@
-//! The stages of a command before it writes: each fetches a file from the shelf and reads it, or asks the spans of a
-//! setup, or ends with its cause.
+//! The stages of a command before it writes: each fetches a file from the shelf and reads it, or requires that
+//! the spans of a setup are provable, or ends with its cause.
 #![tactic(auto)]
 
 mod fetch;
@@ -23,7 +23,7 @@ pub use preparation::{prepare, prepare_setup};
 pub use second::read_second_setup;
 pub use setup::read_setup;
 pub use source::read_source;
-pub use spans::{Verdicts, judge_spans, refuse, require_spans};
+pub use spans::{Verdicts, judge_spans, require_spans, unless_refused};
 pub use stimulus::{read_schedule, read_schedules};
 pub use table::fetch_table;
 pub use words::fetch_words;

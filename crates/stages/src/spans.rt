@@ -26,14 +26,15 @@ pub fn require_spans(alloc: Global, setup: &Setup) -> Result<(), Fault>
     ensures { AreRequired setup.now result }
 {
     let verdicts = judge_spans(alloc, setup)?;
-    refuse(setup, verdicts.refused)
+    unless_refused(setup, verdicts.refused)
 }
 
-/// Ends with the fault of the first span that isn't provable, where there is one. Else each holds in every run.
-pub fn refuse(setup: &Setup, refused: Option<Fault>) -> Result<(), Fault>
+/// Ends with the fault of the first span that isn't provable, where there is one. Else each holds in every run. The
+/// setup is there for the clauses.
+pub fn unless_refused(setup: &Setup, refused: Option<Fault>) -> Result<(), Fault>
     requires configured { AreConfigured setup.now }
     requires first { IsFirstOf setup.now setup.now.spans refused }
-    ensures asked { AreRequired setup.now result }
+    ensures required { AreRequired setup.now result }
     ensures memory { result ≢ Err Fault.Memory }
 {
     a_provable_span_holds_in_every_run();

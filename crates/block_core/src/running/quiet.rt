@@ -41,6 +41,7 @@ impl<F: Fifo> Running<F> {
                 }
             }
         }
+        // Of a lone machine it tries a simple clock once more, in vain: it is one piece of code for all places.
         News {
             fifos: self.step_all(pad, None),
             shown: true,
@@ -50,8 +51,9 @@ impl<F: Fifo> Running<F> {
 
 impl<F: Fifo> Slot<F> {
     /// Its clock, where the system does nothing in it and it is a simple one: it has no tick, or a simple tick. Else
-    /// nothing is done. Of a machine that is known to be ready in this clock, nothing more is asked. It wants nothing
-    /// of its block but pins then, which it writes over those of the machines before it, nor of its FIFOs.
+    /// nothing is done. Of a machine that is known to be ready in this clock, neither autopull, delay, stall, pending
+    /// word nor divider is asked. In a simple clock it wants nothing of its FIFOs, and of its block only pins, which it
+    /// writes over those of the machines before it.
     #[inline(always)]
     pub fn simple_clock(&mut self, view: &View, outputs: &mut Outputs, ready: bool) -> Tried
         requires ready { ready ≡ true → spec.is_ready (Some self.old) ≡ true }

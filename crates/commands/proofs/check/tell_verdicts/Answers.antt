@@ -17,4 +17,4 @@ returns-in_err-write_verdicts g c =
 pub returns : goal.returns
 returns g c =
     verdicts_end _ _ _ _ _ _ c.requires.judged.verdicts (ap₂ verdict_text c.as_slice.ensures.list c.deref.ensures.value)
-    c.in_ok-write_verdicts.ensures c.refuse.ensures.asked c.refuse.ensures.memory
+    c.in_ok-write_verdicts.ensures c.unless_refused.ensures.required c.unless_refused.ensures.memory
