@@ -13,8 +13,8 @@ pub(crate) struct Stepped {
     pub is_new: bool,
 }
 
-/// Works out one clock, before the run's `end`. The system does nothing up to `until`, so before that clock the ports aren't
-/// asked. The result's `until` is that clock as seen from the next one, which is the same where nobody did anything at a FIFO.
+/// Works out one clock, before the run's `end`. The system does nothing up to `until`, so before that clock the ports
+/// aren't asked. The result has that clock as seen from the next one: the same where nobody did anything at a FIFO.
 // A part of each run's loop: as a call of its own it costs a fifth of the instructions of a clock with its text.
 #[inline(always)]
 pub(crate) fn step<V, P, R: Runs<V, P>>(

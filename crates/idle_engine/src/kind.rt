@@ -71,8 +71,8 @@ pub(crate) trait Runs<V, P> {
         requires within { end ≤ 10 ^ 12 }
         ensures { IsUntil (kind.acts (lines ports.now) (hosted self.now ports.now)) end clock result };
 
-    /// True only if it moves on in the present clock, if the system does nothing in it; false says nothing. No machine is asked
-    /// what it sees.
+    /// True only if it moves on in the present clock, if the system does nothing in it; false says nothing. No machine
+    /// is asked what it sees.
     fn begins_or_changes(&self, ports: &P) -> bool
         ensures { result ≡ true → kind.moves_on (hosted self.now ports.now) ≡ true };
 

@@ -20,8 +20,8 @@ use sample_trace::{Trace, TraceFailed};
 use std::sync::ledger::Ledger;
 use step_count::Steps;
 
-// The four calls differ in `ok`, `run` and `err` alone, and in which block or blocks they are of; that of conducts has no `err`.
-// A trace's clauses are said from what its sink had taken before (`FromReady`).
+// The four calls differ in `ok`, `run` and `err` alone, and in which block or blocks they run; that of conducts has no
+// `err`. A trace's clauses are said from what its sink had taken before (`FromReady`).
 
 /// Runs a block for some clocks, with a stimulus that begins in clock 0, and tells a trace the sample of each clock
 /// and that the samples end there.
